@@ -1,0 +1,64 @@
+-- `run::run_end` meets its contract. The invariant: the run from i on ends where the run from the start does.
+-- Assumes nothing.
+use mathlib.Core.Path.{_≡_, _∙_, sym}
+use Prim.Native.Nat.{_-_}
+use lib.ListN.{length}
+use borrow.Author.Tests.{not-true, not-false}
+use borrow.Author.Needs.{needs}
+use Rattle.scan.specs.Bytes.{isKind}
+use Rattle.scan.specs.Scan.{runAt}
+use Rattle.scan.specs.RunLaws.{runAt-on, runAt-off, runAt-end}
+use Rattle.scan.proofs.run.run_end.Statement.{statement}
+use Rattle.scan.proofs.run.run_end.Tie as tie
+use Rattle.scan.proofs.run.run_end.Reads as reads
+use Rattle.scan.proofs.run.run_end.Lts as lts
+use Rattle.scan.proofs.classes.is_kind.Reads as is-kind-reads
+
+abbrev Inv-loop : tie.InvT-loop
+Inv-loop s at classes k i₀ i = runAt (isKind k) s at ≡ runAt (isKind k) s i
+
+abbrev μ-loop : tie.MeasureT-loop
+μ-loop s at classes k i₀ i = length s - i
+
+loop-holds : tie.Need-loop-holds Inv-loop μ-loop
+loop-holds c = search needs
+
+shared-slice-read-is-kind : tie.Need-shared-slice-read-is-kind Inv-loop μ-loop
+shared-slice-read-is-kind c = search needs
+
+is-kind-requires : tie.Need-is-kind-requires Inv-loop μ-loop
+is-kind-requires c κs = search needs
+
+returns : tie.Need-returns Inv-loop μ-loop
+returns c =
+    let l = c .before .before .before .before .loop in
+    sym (l .inv ∙ runAt-off _ _ _ (search needs) (sym (c .before .is-kind .ensures) ∙ not-true _ (c .if1 .taken)))
+
+add-i : tie.Need-add-i Inv-loop μ-loop
+add-i c = search needs
+
+loop-less : tie.Need-loop-less Inv-loop μ-loop
+loop-less c = search needs
+
+loop-again : tie.Need-loop-again Inv-loop μ-loop
+loop-again c =
+    let l = c .before .before .before .before .loop in
+    l .inv ∙ runAt-on _ _ _ (search needs) (sym (c .before .is-kind .ensures) ∙ not-false _ (c .if1 .left))
+
+returns-2 : tie.Need-returns-2 Inv-loop μ-loop
+returns-2 c = sym (c .before .loop .inv ∙ runAt-end _ _ _ (search needs))
+
+pub run-end-spec : {M : Type 1} → statement M
+run-end-spec =
+    tie.close
+    (tie.spec
+    Inv-loop
+    μ-loop
+    loop-holds
+    shared-slice-read-is-kind
+    is-kind-requires
+    returns
+    add-i
+    loop-less
+    loop-again
+    returns-2)

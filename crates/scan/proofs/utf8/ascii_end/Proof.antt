@@ -1,0 +1,55 @@
+-- `utf8::ascii_end` meets its contract. The invariant is the contract, at i.
+-- Assumes nothing.
+use mathlib.Core.Path.{_≡_, _∙_, sym}
+use Prim.Native.Nat.{_-_}
+use lib.ListN.{length}
+use borrow.Author.Needs.{needs}
+use Rattle.scan.specs.Utf8.{isUtf8, utf8At}
+use Rattle.scan.specs.Utf8.{whole}
+use Rattle.scan.specs.Utf8Laws.{ascii-on}
+use Rattle.scan.proofs.utf8.ascii_end.Statement.{statement}
+use Rattle.scan.proofs.utf8.ascii_end.Tie as tie
+use Rattle.scan.proofs.utf8.ascii_end.Reads as reads
+use Rattle.scan.proofs.utf8.ascii_end.Lts as lts
+
+abbrev Inv-loop : tie.InvT-loop
+Inv-loop s i₀ i = isUtf8 s ≡ utf8At whole s i
+
+abbrev μ-loop : tie.MeasureT-loop
+μ-loop s i₀ i = length s - i
+
+loop-holds : tie.Need-loop-holds Inv-loop μ-loop
+unfolding isUtf8
+loop-holds c = search needs
+
+shared-slice-read-if1 : tie.Need-shared-slice-read-if1 Inv-loop μ-loop
+shared-slice-read-if1 c = search needs
+
+returns : tie.Need-returns Inv-loop μ-loop
+returns c = c .before .before .before .loop .inv
+
+add-i : tie.Need-add-i Inv-loop μ-loop
+add-i c = search needs
+
+loop-less : tie.Need-loop-less Inv-loop μ-loop
+loop-less c = search needs
+
+loop-again : tie.Need-loop-again Inv-loop μ-loop
+loop-again c = c .before .before .before .loop .inv ∙ ascii-on _ _ (search needs) (search needs)
+
+returns-2 : tie.Need-returns-2 Inv-loop μ-loop
+returns-2 c = c .before .loop .inv
+
+pub ascii-end-spec : {M : Type 1} → statement M
+ascii-end-spec =
+    tie.close
+    (tie.spec
+    Inv-loop
+    μ-loop
+    loop-holds
+    shared-slice-read-if1
+    returns
+    add-i
+    loop-less
+    loop-again
+    returns-2)
