@@ -1,0 +1,58 @@
+-- `line::parse_cmd_argument` meets its contract.
+-- Assumes nothing.
+use borrow.Author.Tests.{eq-eqb, ne-eqb}
+use Rattle.scan.specs.Bytes.{isKind}
+use Rattle.reading.specs.Line.{restAt}
+use borrow.Author.Needs.{needs}
+use Rattle.reading.proofs.line.parse_cmd_argument.Statement.{statement}
+use Rattle.reading.proofs.line.parse_cmd_argument.Tie as tie
+use Rattle.reading.proofs.line.parse_cmd_argument.Reads as reads
+use Rattle.reading.proofs.line.parse_cmd_argument.Lts as lts
+use Rattle.reading.proofs.line.skip_byte.Reads as skip-byte-reads
+use Rattle.reading.proofs.line.text_from.Reads as text-from-reads
+use Rattle.scan.proofs.run.skip_spaces.Reads as skip-spaces-reads
+
+skip-byte-requires : tie.Need-skip-byte-requires
+skip-byte-requires c κs = search needs
+
+skip-spaces-requires : tie.Need-skip-spaces-requires
+skip-spaces-requires c κs = search needs
+
+text-from-requires : tie.Need-text-from-requires
+text-from-requires c κs = search needs
+
+skip-byte-requires-2 : tie.Need-skip-byte-requires-2
+skip-byte-requires-2 c κs = search needs
+
+returns : tie.Need-returns
+unfolding restAt isKind
+returns c =
+    rw (
+      ← c .before .before .before .before .skip-byte .ensures,
+      ← c .before .before .before .skip-spaces .ensures,
+      ← c .before .before .text-from .ensures,
+      ← c .before .skip-byte2 .ensures,
+      eq-eqb _ _ (c .if1 .taken),
+    )
+
+returns-2 : tie.Need-returns-2
+unfolding restAt isKind
+returns-2 c =
+    rw (
+      ← c .before .before .before .before .skip-byte .ensures,
+      ← c .before .before .before .skip-spaces .ensures,
+      ← c .before .before .text-from .ensures,
+      ← c .before .skip-byte2 .ensures,
+      ne-eqb _ _ (c .if1 .left),
+    )
+
+pub parse-cmd-argument-spec : {M : Type 1} → statement M
+parse-cmd-argument-spec =
+    tie.close
+    (tie.spec
+    skip-byte-requires
+    skip-spaces-requires
+    text-from-requires
+    skip-byte-requires-2
+    returns
+    returns-2)
