@@ -1,3 +1,4 @@
 // Reading an Ex command line: parse.rs of modalkit, over lent bytes and positions in them.
 pub mod line;
 pub mod range;
+pub mod text;

@@ -80,6 +80,20 @@ pub runAt-within : (p : ℕ → Bool) (s : List ℕ) (i : ℕ) → i ≤ length 
 unfolding runAt
 runAt-within p s i h = omega (arith, run-within p i (drop i s), length-drop i s)
 
+-- what no byte of a run changes is the same where the run ends
+pub run-carry : {A : Type 0} (p : ℕ → Bool) (s : List ℕ) (f : ℕ → A) (i : ℕ) →
+    ((k : ℕ) → i ≤ k → k < length s → p (getD s k 0) ≡ true → f k ≡ f (k + 1)) → f i ≡ f (runAt p s i)
+run-carry p s f i h = go (length s) i (omega arith) h
+  where
+    go : (n i : ℕ) → length s ≤ n + i → ((k : ℕ) → i ≤ k → k < length s → p (getD s k 0) ≡ true → f k ≡ f (k + 1)) → f i ≡ f (runAt p s i)
+    go zero i l h = ap f (sym (runAt-end p s i (omega arith)))
+    go (suc n) i l h = step (p (getD s i 0)) (decLt i (length s)) refl (go n (i + 1) (omega arith) (λ k m. h k (omega arith)))
+      where
+        step : (b : Bool) → Dec (i < length s) → p (getD s i 0) ≡ b → f (i + 1) ≡ f (runAt p s (i + 1)) → f i ≡ f (runAt p s i)
+        step b (no k) e r = ap f (sym (runAt-end p s i (omega arith)))
+        step true (yes k) e r = h i (omega arith) k e ∙ r ∙ ap f (sym (runAt-on p s i k e))
+        step false (yes k) e r = ap f (sym (runAt-off p s i k e))
+
 -- the first byte and the byte behind it -----------------------------------------------------------------------------------
 
 -- the byte at which a run ends, and the byte at which it starts
