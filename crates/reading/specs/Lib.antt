@@ -1,8 +1,12 @@
 pub mod Range
 pub mod Line
 pub mod Text
+pub mod Lists
+pub mod Listed
 pub mod Bounds
 pub mod Stable
 pub mod LineLaws
 pub mod Behind
 pub mod TextLaws
+pub mod ListLaws
+pub mod OptionLaws

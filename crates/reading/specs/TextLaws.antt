@@ -47,7 +47,7 @@ module _ (q : Bool) (s : List ℕ) where
   unfolding textEndAt textEndFrom
   end-own i h t = rw (drop-step s i h, t, textEndFrom)
 
-  bytes-own : (i : ℕ) → i < length s → own q (byteAt s i) ≡ true → bytesAt q s i ≡ byteAt s i ∷ bytesAt q s (i + 1)
+  pub bytes-own : (i : ℕ) → i < length s → own q (byteAt s i) ≡ true → bytesAt q s i ≡ byteAt s i ∷ bytesAt q s (i + 1)
   unfolding bytesAt bytesFrom
   bytes-own i h t = rw (drop-step s i h, t, bytesFrom)
 
@@ -145,3 +145,76 @@ module _ (q : Bool) (s : List ℕ) where
         go : Dec (j + 1 < length s) → bytesFrom q true (drop (j + 1) s) ≡ []
         go (yes k) = rw (drop-step s (j + 1) k, e, bytesFrom)
         go (no k) = let z : length s ≤ j + 1 = omega arith in rw (drop-of-length-le s z)
+
+-- bounds ------------------------------------------------------------------------------------------------------------------------
+
+-- a text ends where it starts or later, and within what is left; a quoted one before the end
+record EndsIn (q : Bool) (i n j : ℕ) : Type 0 where
+  from : i ≤ j
+  to : j + cond q 1 0 ≤ i + n
+
+stop-in : (q : Bool) (i b j : ℕ) → stopAt q i b ≡ TextEnd.End j → i ≡ j
+unfolding stopAt
+stop-in true i b j h = go (eqb b 0x22) h
+  where
+    go : (t : Bool) → cond t (TextEnd.End i) TextEnd.Bad ≡ TextEnd.End j → i ≡ j
+    go true e = cc
+    go false e = let z : _≡_ {A = ℕ} 0 1 = cc in absurd (omega arith)
+stop-in false i b j h = cc
+
+stop-end : (q : Bool) (i j : ℕ) → stopAt q i 0 ≡ TextEnd.End j → EndsIn q i 0 j
+unfolding stopAt
+stop-end true i j h = let z : _≡_ {A = ℕ} 0 1 = cc in absurd (omega arith)
+stop-end false i j h = let p : i ≡ j = cc in record { from = omega arith; to = omega arith }
+
+ends-here : (q : Bool) (i j n : ℕ) → i ≡ j → EndsIn q i (suc n) j
+ends-here true i j n p = record { from = omega arith; to = omega arith }
+ends-here false i j n p = record { from = omega arith; to = omega arith }
+
+ends-later : (q : Bool) (i n j : ℕ) → EndsIn q (i + 1) n j → EndsIn q i (suc n) j
+ends-later q i n j r = record { from = omega (arith, r .from); to = omega (arith, r .to) }
+
+ends-in : (q e : Bool) (i j : ℕ) (xs : List ℕ) → textEndFrom q e i xs ≡ TextEnd.End j → EndsIn q i (length xs) j
+unfolding textEndFrom
+ends-in q true i j [] h = let z : _≡_ {A = ℕ} 0 1 = cc in absurd (omega arith)
+ends-in q false i j [] h = stop-end q i j h
+ends-in q true i j (b ∷ bs) h = go (escapeOf q b) (ends-in q false (i + 1) j bs) h
+  where
+    go : (t : Escape) → (textEndFrom q false (i + 1) bs ≡ TextEnd.End j → EndsIn q (i + 1) (length bs) j) →
+        elim t [ Escape.Byte c ↦ textEndFrom q false (i + 1) bs | Escape.Bad ↦ TextEnd.Bad ] ≡ TextEnd.End j → EndsIn q i (suc (length bs)) j
+    go (Escape.Byte c) r g = ends-later q i (length bs) j (r g)
+    go Escape.Bad r g = let z : _≡_ {A = ℕ} 0 1 = cc in absurd (omega arith)
+ends-in q false i j (b ∷ bs) h = go (own q b) (eqb b 0x5C) (λ e. ends-in q e (i + 1) j bs) h
+  where
+    go : (t u : Bool) → ((e : Bool) → textEndFrom q e (i + 1) bs ≡ TextEnd.End j → EndsIn q (i + 1) (length bs) j) →
+        elim t [ true ↦ textEndFrom q false (i + 1) bs | false ↦ elim u [ true ↦ textEndFrom q true (i + 1) bs | false ↦ stopAt q i b ] ] ≡ TextEnd.End j →
+        EndsIn q i (suc (length bs)) j
+    go true u r g = ends-later q i (length bs) j (r false g)
+    go false true r g = ends-later q i (length bs) j (r true g)
+    go false false r g = ends-here q i j (length bs) (stop-in q i b j g)
+
+pub text-end-in : (q : Bool) (s : List ℕ) (i j : ℕ) → textEndAt q s i ≡ TextEnd.End j → (i ≤ j) × (j + cond q 1 0 ≤ i + (length s - i))
+unfolding textEndAt
+text-end-in q s i j t = let r = ends-in q false i j (drop i s) t in (r .from, omega (arith, r .to, length-drop i s))
+
+-- a text has no more bytes than it is long
+bytes-short : (q e : Bool) (xs : List ℕ) → length (bytesFrom q e xs) ≤ length xs
+unfolding bytesFrom
+bytes-short q e [] = omega arith
+bytes-short q true (b ∷ bs) = go (escapeOf q b) (bytes-short q false bs)
+  where
+    go : (t : Escape) → length (bytesFrom q false bs) ≤ length bs →
+        length {A = ℕ} (elim t as (λ x. List ℕ) [ Escape.Byte c ↦ c ∷ bytesFrom q false bs | Escape.Bad ↦ [] ]) ≤ suc (length bs)
+    go (Escape.Byte c) r = omega arith
+    go Escape.Bad r = omega arith
+bytes-short q false (b ∷ bs) = go (own q b) (eqb b 0x5C) (λ e. bytes-short q e bs)
+  where
+    go : (t u : Bool) → ((e : Bool) → length (bytesFrom q e bs) ≤ length bs) →
+        length {A = ℕ} (elim t as (λ x. List ℕ) [ true ↦ b ∷ bytesFrom q false bs | false ↦ elim u as (λ x. List ℕ) [ true ↦ bytesFrom q true bs | false ↦ [] ] ]) ≤ suc (length bs)
+    go true u r = omega (arith, r false)
+    go false true r = omega (arith, r true)
+    go false false r = omega arith
+
+pub bytes-length : (q : Bool) (s : List ℕ) (i : ℕ) → length (bytesAt q s i) ≤ length s
+unfolding bytesAt
+bytes-length q s i = omega (arith, bytes-short q false (drop i s), length-drop i s)

@@ -9,6 +9,7 @@ ghost use mathlib.Core.Path.{_≡_};
 ghost use Rattle.scan.specs.Bytes.{Classes};
 ghost use Rattle.scan.specs.Scan.{runAt};
 ghost use Rattle.store.specs.Splice.{Put, Room};
+ghost use Rattle.reading.specs.Lists.{textAt};
 ghost use Rattle.reading.specs.Text.{quotedEscape, plainEscape, escapeOf, own, stopAt as stopOf, textEndAt, bytesAt};
 
 // What a backslash and the byte after it stand for.
@@ -21,6 +22,27 @@ pub enum Escape {
 pub enum TextEnd {
     End(usize),
     Bad,
+}
+
+// The text of an item without its quotes: whether it is quoted, and where its first byte or escape stands.
+pub struct ItemText {
+    pub quoted: bool,
+    pub from: usize,
+}
+
+pub fn item_text(s: &[u8], at: usize) -> ItemText
+    ensures { λ r. ⌜ bytesAt (r .quoted) (now (s .entry)) (r .from) ≡ textAt (now (s .entry)) at ⌝ }
+{
+    if byte_at(s, at) == 0x22 {
+        return ItemText {
+            quoted: true,
+            from: at + 1,
+        };
+    }
+    ItemText {
+        quoted: false,
+        from: at,
+    }
 }
 
 fn quoted_escape(b: u8) -> Escape
