@@ -3,6 +3,7 @@ pub mod Line
 pub mod Text
 pub mod Lists
 pub mod Listed
+pub mod Alone
 pub mod Bounds
 pub mod Stable
 pub mod LineLaws
@@ -10,3 +11,4 @@ pub mod Behind
 pub mod TextLaws
 pub mod ListLaws
 pub mod OptionLaws
+pub mod Checks

@@ -1,12 +1,12 @@
 -- Laws of options, by the first bytes of a text.
 -- Assumes nothing.
 use mathlib.Core.Path.{_≡_, refl, _∙_, sym, ap}
-use mathlib.Core.Bool.{Bool, true, false, _&&_}
+use mathlib.Core.Bool.{Bool, true, false, cond, _&&_}
 use mathlib.Core.List.{List, [], _∷_}
-use Prim.Native.Nat.{ℕ, suc, _+_, _-_}
+use Prim.Native.Nat.{ℕ, suc, _+_, _-_, _≤_}
 use native.Mathlib.Omega.{arith}
 use lib.Dec.{eqb}
-use lib.ListN.{length, drop}
+use lib.ListN.{length, drop, length-drop, length-append}
 use lib.Seq.{sets}
 use borrow.Author.Tests.{eq-eqb, ne-eqb}
 use Rattle.scan.specs.Scan.{byteAt}
@@ -105,6 +105,17 @@ key-length (b ∷ bs) = go (eqb b 0x3D) refl (key-length bs)
     go : (c : Bool) → eqb b 0x3D ≡ c → length (keyOf bs) + length (afterKey bs) ≡ length bs → length (keyOf (b ∷ bs)) + length (afterKey (b ∷ bs)) ≡ suc (length bs)
     go true q h = rw (q, keyOf, afterKey) (omega arith)
     go false q h = rw (q, keyOf, afterKey) (omega arith)
+
+-- an option has no more bytes than its text
+pub option-length : (t : List ℕ) → length (optionBytes (optionOf t)) ≤ length t
+unfolding optionBytes optionOf flagOf
+option-length t = go (plusPlus t) (afterKey (drop 2 t)) refl
+  where
+    go : (b : Bool) (a : List ℕ) → afterKey (drop 2 t) ≡ a →
+        length (optionBytes (cond b (flagOf (keyOf (drop 2 t)) a) (Option.positional t))) ≤ length t
+    go false a e = omega arith
+    go true [] e = omega (arith, key-length (drop 2 t), length-drop 2 t)
+    go true (c ∷ v) e = omega (arith, key-length (drop 2 t), length-drop 2 t, ap length e, length-append (keyOf (drop 2 t)) v)
 
 -- an option written to the front of a store --------------------------------------------------------------------------------------
 

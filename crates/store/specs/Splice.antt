@@ -38,7 +38,7 @@ sets-then : {s₁ s₂ : List ℕ} (s : List ℕ) (at m : ℕ) (u v : List ℕ) 
 sets-then s at m u v e₁ em e₂ = e₂ ∙ (rw (e₁, em) (sets-append s at u v))
 
 -- what a reader sees: the bytes at the front, and the rest as it was
-sets-front : (s v : List ℕ) → length v ≤ length s → sets s 0 v ≡ v ++ drop (length v) s
+pub sets-front : (s v : List ℕ) → length v ≤ length s → sets s 0 v ≡ v ++ drop (length v) s
 sets-front s v h = sets-eq v s 0 (omega arith) ∙ rw zero-add
   where
     zero-add : (n : ℕ) → 0 + n ≡ n
@@ -56,10 +56,6 @@ put-then {s} {s₁} {s₂} {u} {v} {at} {m} {r} p q = record {
 -- the length stays
 pub put-length : {s s₁ u : List ℕ} {at m : ℕ} → Put s s₁ at m u → length s₁ ≡ length s
 put-length {s} {s₁} {u} {at} p = ap length (p .store) ∙ length-sets s at u
-
--- the reader's form: the bytes at the front of the store, and every other byte as it was
-pub put-front : {s s₁ v : List ℕ} {r : ℕ} → Put s s₁ 0 r v → length v ≤ length s → (r ≡ length v) × (s₁ ≡ v ++ drop (length v) s)
-put-front {s} {s₁} {v} p h = (omega (arith, p .place), p .store ∙ sets-front s v h)
 
 -- there is room for the first where there is room for both
 pub room-first : {s : List ℕ} {at : ℕ} (u v : List ℕ) → Room s at (u ++ v) → Room s at u

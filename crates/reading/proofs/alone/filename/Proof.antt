@@ -1,0 +1,57 @@
+-- `alone::filename` meets its contract.
+-- Assumes nothing.
+use mathlib.Core.Path.{_≡_, _∙_, sym, ap}
+use native.Mathlib.Omega.{arith}
+use lib.ListN.{length}
+use Rattle.reading.specs.Lists.{filenameOf, textAt}
+use Rattle.reading.specs.Alone.{filenameSeen, filenameBytes}
+use borrow.Author.Needs.{needs}
+use Rattle.reading.proofs.alone.filename.Statement.{statement}
+use Rattle.reading.proofs.alone.filename.Tie as tie
+use Rattle.reading.proofs.alone.filename.Reads as reads
+use Rattle.reading.proofs.alone.filename.Lts as lts
+use Rattle.reading.proofs.alone.lone.Reads as lone-reads
+use Rattle.reading.proofs.list.copy_item.Reads as copy-item-reads
+
+lone-requires : tie.Need-lone-requires
+lone-requires c κs = search needs
+
+returns : tie.Need-returns
+unfolding filenameSeen filenameBytes filenameOf
+returns c = (rw (sym (c .before .lone .ensures) ∙ c .if1 .taken), rw (sym (c .before .lone .ensures) ∙ c .if1 .taken))
+
+lone-requires-2 : tie.Need-lone-requires-2
+lone-requires-2 c κs = search needs
+
+returns-2 : tie.Need-returns-2
+unfolding filenameSeen filenameBytes filenameOf
+returns-2 c =
+    (rw (sym (c .before .before .before .lone .ensures) ∙ c .before .before .if1 .left, sym (c .before .lone2 .ensures) ∙ c .if2 .taken), rw (sym (c .before .before .before .lone .ensures) ∙ c .before .before .if1 .left, sym (c .before .lone2 .ensures) ∙ c .if2 .taken))
+
+copy-item-requires : tie.Need-copy-item-requires
+copy-item-requires c κs = search needs
+
+same-length : tie.Need-same-length
+same-length c = search needs
+
+returns-3 : tie.Need-returns-3
+unfolding filenameSeen filenameBytes filenameOf
+returns-3 c =
+    let a = c .before .before .before .before .before .before .before .before .before .before .args in
+    let p = c .before .before .copy-item .ensures in
+    let n : c .before .before .copy-item .result ≡ length (textAt (a .s .now) (a .x .start)) = omega (arith, p .place) in (
+      rw (sym (c .before .before .before .before .before .before .before .lone .ensures) ∙ c .before .before .before .before .before .before .if1 .left, sym (c .before .before .before .before .before .lone2 .ensures) ∙ c .before .before .before .before .if2 .left, n),
+      rw (sym (c .before .before .before .before .before .before .before .lone .ensures) ∙ c .before .before .before .before .before .before .if1 .left, sym (c .before .before .before .before .before .lone2 .ensures) ∙ c .before .before .before .before .if2 .left) (p .store),
+    )
+
+pub filename-spec : {M : Type 1} → statement M
+filename-spec =
+    tie.close
+    (tie.spec
+    lone-requires
+    returns
+    lone-requires-2
+    returns-2
+    copy-item-requires
+    same-length
+    returns-3)

@@ -1,0 +1,33 @@
+-- `alone::lone` meets its contract.
+-- Assumes nothing.
+use Prim.Native.Nat.{_+_}
+use native.Mathlib.Omega.{arith}
+use borrow.Author.Tests.{eq-eqb, ne-eqb}
+use Rattle.reading.specs.Lists.{lone}
+use borrow.Author.Needs.{needs}
+use Rattle.reading.proofs.alone.lone.Statement.{statement}
+use Rattle.reading.proofs.alone.lone.Tie as tie
+use Rattle.reading.proofs.alone.lone.Reads as reads
+use Rattle.reading.proofs.alone.lone.Lts as lts
+use Rattle.scan.proofs.part.byte_at.Reads as byte-at-reads
+
+returns : tie.Need-returns
+unfolding lone
+returns c = rw (ne-eqb (c .before .before .before .args .x .end) (c .before .before .before .args .x .start + 1) (λ e. omega arith))
+
+sub-if2 : tie.Need-sub-if2
+sub-if2 c = search needs
+
+returns-2 : tie.Need-returns-2
+unfolding lone
+returns-2 c = rw (ne-eqb (c .before .before .before .before .before .before .args .x .end) (c .before .before .before .before .before .before .args .x .start + 1) (λ e. c .if2 .taken (omega arith)))
+
+byte-at-requires : tie.Need-byte-at-requires
+byte-at-requires c κs = search needs
+
+returns-3 : tie.Need-returns-3
+unfolding lone
+returns-3 c = rw (c .byte-at .ensures, eq-eqb (c .before .before .before .before .before .before .before .args .x .end) (c .before .before .before .before .before .before .before .args .x .start + 1) (omega (arith, c .before .if2 .left)))
+
+pub lone-spec : {M : Type 1} → statement M
+lone-spec = tie.close (tie.spec returns sub-if2 returns-2 byte-at-requires returns-3)

@@ -1,0 +1,83 @@
+-- `alone::options_in` meets its contract.
+-- Assumes nothing.
+use mathlib.Core.Path.{_≡_, _∙_, sym, ap}
+use native.Mathlib.Omega.{arith}
+use Rattle.reading.specs.Listed.{optionSeen, optionBytes}
+use Rattle.reading.specs.ListLaws.{text-length}
+use Rattle.reading.specs.Alone.{Answer, optionsTold, refusalNo}
+use Rattle.reading.specs.Checks.{byOptions, options-answer, options-keyless, options-pick, said-refused, said-beyond, said-item, option-short}
+use borrow.Author.Needs.{needs}
+use Rattle.reading.proofs.alone.options_in.Statement.{statement}
+use Rattle.reading.proofs.alone.options_in.Tie as tie
+use Rattle.reading.proofs.alone.options_in.Reads as reads
+use Rattle.reading.proofs.alone.options_in.Lts as lts
+use Rattle.reading.proofs.list.parse_list.Reads as parse-list-reads
+use Rattle.reading.proofs.option.copy_option.Reads as copy-option-reads
+use Rattle.scan.proofs.classes.classes.Reads as classes-reads
+
+classes-requires : tie.Need-classes-requires
+classes-requires c κs = search needs
+
+parse-list-requires : tie.Need-parse-list-requires
+parse-list-requires c κs = search needs
+
+enum-told : tie.Need-enum-told
+enum-told c = search needs
+
+enum-known-seen : tie.Need-enum-known-seen
+enum-known-seen c = search needs
+
+returns : tie.Need-returns
+unfolding optionsTold refusalNo
+returns c = said-refused optionSeen optionBytes _ _ 5 (options-keyless _ _ _ (sym (c .before .before .before .before .parse-list .ensures) ∙ c .before .before .seen .given .1) (c .if1 .taken))
+
+enum-told-2 : tie.Need-enum-told-2
+enum-told-2 c = search needs
+
+enum-known-picked : tie.Need-enum-known-picked
+enum-known-picked c = search needs
+
+copy-option-requires : tie.Need-copy-option-requires
+copy-option-requires c κs =
+    let a = c .before .before .before .before .before .before .before .before .before .before .before .before .before .before .args in
+    (search needs, record { fits = omega (arith, text-length (a .text .now) (c .before .before .before .picked .given .0 .0 .start), c .before .before .before .before .before .before .before .before .before .before .before .before .before .before .pre) })
+
+returns-2 : tie.Need-returns-2
+unfolding optionsTold refusalNo
+returns-2 c = said-refused optionSeen optionBytes _ _ 3 (options-answer _ _ ∙ ap (byOptions _) (sym (c .before .before .parse-list .ensures) ∙ c .enum-told .given .1))
+
+returns-3 : tie.Need-returns-3
+unfolding optionsTold refusalNo
+returns-3 c =
+    said-beyond optionSeen optionBytes _ _ _
+    (options-pick _ _ _ (sym (c .before .before .before .before .before .before .parse-list .ensures) ∙ c .before .before .before .before .seen .given .1) (c .before .before .if1 .left) _ (c .enum-told2 .given .1))
+
+same-length : tie.Need-same-length
+same-length c = search needs
+
+returns-4 : tie.Need-returns-4
+unfolding optionsTold refusalNo
+returns-4 c =
+    let a = c .before .before .before .before .before .before .before .before .before .before .before .before .before .before .before .before .before .args in
+    said-item optionSeen optionBytes _ _ _ _
+    (options-pick _ _ _ (sym (c .before .before .before .before .before .before .before .before .before .before .before .before .parse-list .ensures) ∙ c .before .before .before .before .before .before .before .before .before .before .seen .given .1) (c .before .before .before .before .before .before .before .before .if1 .left) _ (c .before .before .before .before .before .before .picked .given .1))
+    (c .before .before .copy-option .ensures .0)
+    (omega (arith, option-short (a .text .now) (c .before .before .before .before .before .before .picked .given .0 .0 .start), c .before .before .before .before .before .before .before .before .before .before .before .before .before .before .before .before .before .pre))
+    (c .before .before .copy-option .ensures .1)
+
+pub options-in-spec : {M : Type 1} → statement M
+options-in-spec =
+    tie.close
+    (tie.spec
+    classes-requires
+    parse-list-requires
+    enum-told
+    enum-known-seen
+    returns
+    enum-told-2
+    enum-known-picked
+    copy-option-requires
+    returns-2
+    returns-3
+    same-length
+    returns-4)

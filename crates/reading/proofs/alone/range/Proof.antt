@@ -1,0 +1,50 @@
+-- `alone::range` meets its contract.
+-- Assumes nothing.
+use mathlib.Core.Path.{_∙_, sym}
+use borrow.Author.Tests.{le-leb, lt-leb}
+use Rattle.reading.specs.Alone.{rangeTold, rangeAlone, refusalNo}
+use borrow.Author.Needs.{needs}
+use Rattle.reading.proofs.alone.range.Statement.{statement}
+use Rattle.reading.proofs.alone.range.Tie as tie
+use Rattle.reading.proofs.alone.range.Reads as reads
+use Rattle.reading.proofs.alone.range.Lts as lts
+use Rattle.reading.proofs.alone.whole_range.Reads as whole-range-reads
+use Rattle.reading.proofs.range.parse_range.Reads as parse-range-reads
+use Rattle.scan.proofs.classes.classes.Reads as classes-reads
+use Rattle.scan.proofs.utf8.is_utf8.Reads as is-utf8-reads
+
+returns : tie.Need-returns
+unfolding rangeTold rangeAlone refusalNo
+returns c = rw (lt-leb _ _ (c .if1 .taken))
+
+is-utf8-requires : tie.Need-is-utf8-requires
+is-utf8-requires c κs = search needs
+
+classes-requires : tie.Need-classes-requires
+classes-requires c κs = search needs
+
+parse-range-requires : tie.Need-parse-range-requires
+parse-range-requires c κs = search needs
+
+whole-range-requires : tie.Need-whole-range-requires
+whole-range-requires c κs = search needs
+
+returns-2 : tie.Need-returns-2
+unfolding rangeTold rangeAlone refusalNo
+returns-2 c = rw (le-leb _ _ (c .before .before .before .before .before .before .if1 .left), sym (c .before .before .before .before .before .is-utf8 .ensures) ∙ c .before .before .before .before .if2 .taken, ← c .before .parse-range .ensures) (c .whole-range .ensures)
+
+returns-3 : tie.Need-returns-3
+unfolding rangeTold rangeAlone refusalNo
+returns-3 c = rw (le-leb _ _ (c .before .before .if1 .left), sym (c .before .is-utf8 .ensures) ∙ c .if2 .left)
+
+pub range-spec : {M : Type 1} → statement M
+range-spec =
+    tie.close
+    (tie.spec
+    returns
+    is-utf8-requires
+    classes-requires
+    parse-range-requires
+    whole-range-requires
+    returns-2
+    returns-3)
