@@ -6,24 +6,23 @@
 -- answer the number only. A refused call changes nothing."
 -- Assumes nothing.
 use Prim.Native.Nat.{ℕ, zero, suc, _+_}
-use mathlib.Core.Bool.{Bool, true, false, cond}
+use mathlib.Core.Bool.{cond}
 use mathlib.Core.List.{List, [], _∷_, _++_}
 use lib.Dec.{eqb, leb}
 use lib.ListN.{length, drop}
 use Rattle.scan.specs.Utf8.{isUtf8}
-use Rattle.reading.specs.Range.{rangeAt}
-use Rattle.reading.specs.Lists.{Items, itemsOf, textAt, Filename, filenameOf, Option, optionOf, anyKeyless}
-use Rattle.reading.specs.declared.list.Item.{Item}
-use Rattle.reading.specs.declared.range.RangeSpec.{RangeSpec}
-use Rattle.reading.specs.declared.range.RangeRead.{RangeRead}
+use Rattle.ranges.specs.Range.{rangeAt}
+use Rattle.lists.specs.Lists.{Items, itemsOf, textAt, Filename, filenameOf, Option, optionOf, anyKeyless}
+use Rattle.lists.specs.declared.list.Item.{Item}
+use Rattle.ranges.specs.declared.range.RangeSpec.{RangeSpec}
+use Rattle.ranges.specs.declared.range.RangeRead.{RangeRead}
 use Rattle.reading.specs.declared.alone.Refusal.{Refusal}
 use Rattle.reading.specs.declared.alone.OpenTarget.{OpenTarget}
 use Rattle.reading.specs.declared.alone.FilenamesReply.{FilenamesReply}
 use Rattle.reading.specs.declared.alone.StringsReply.{StringsReply}
 use Rattle.reading.specs.declared.alone.OptionsReply.{OptionsReply}
 use Rattle.reading.specs.declared.alone.RangeReply.{RangeReply}
-use Rattle.reading.specs.declared.option.OptionType.{OptionType}
-use Rattle.reading.specs.Listed.{optionSeen, optionBytes}
+use Rattle.lists.specs.declared.option.OptionType.{OptionType}
 
 -- the answers -------------------------------------------------------------------------------------------------------------------
 

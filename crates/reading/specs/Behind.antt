@@ -1,23 +1,21 @@
 -- A text whose word is not empty and whose argument is, then a space and another text: the reading of the whole.
 -- Assumes nothing.
-use mathlib.Core.Path.{_≡_, refl, _∙_, sym, ap, subst}
-use mathlib.Core.Bool.{Bool, true, false, cond, not}
+use mathlib.Core.Path.{_≡_, refl, _∙_, ap}
+use mathlib.Core.Bool.{Bool, true, false, cond}
 use mathlib.Core.List.{List, [], _∷_, _++_}
-use Prim.Native.Nat.{ℕ, zero, suc, _+_, _-_, _<_, _≤_}
+use Prim.Native.Nat.{ℕ, zero, suc, _+_, _<_, _≤_}
 use native.Mathlib.Omega.{arith}
 use lib.Dec.{eqb, leb}
-use borrow.Author.Tests.{eqb-true, ne-eqb}
-use lib.ListN.{length, getD, drop, take, length-drop, length-append, List·getD-eq-default}
-use lib.Seq.{drop-append-le, drop-append-add, take-all}
+use borrow.Author.Tests.{ne-eqb}
+use lib.ListN.{length, getD, drop, length-drop, length-append, List·getD-eq-default}
+use lib.Seq.{drop-append-le}
 use Rattle.scan.specs.Bytes.{isSpace, isColon, isWord, isText}
-use Rattle.scan.specs.Scan.{runFrom, runAt}
-use Rattle.scan.specs.Scan.{byteAt}
-use Rattle.reading.specs.Range.{rangeAt}
+use Rattle.scan.specs.Scan.{runFrom, runAt, byteAt}
+use Rattle.ranges.specs.Range.{rangeAt}
 use Rattle.reading.specs.Line.{skipByte, wordAt, startOf, readingOf}
 use Rattle.scan.specs.RunLaws.{run-yes, runAt-le, runAt-within}
-use Rattle.reading.specs.Stable.{run-through, run-shift, byte-test-same, runAt-stop, runAt-inside, rangeAt-stop}
-use Rattle.reading.specs.LineLaws.{WordPlace, Parsed, parsed, from-parsed, Places, places}
-use Rattle.reading.specs.declared.range.RangeRead.{RangeRead}
+use Rattle.ranges.specs.Stable.{run-through, run-shift, byte-test-same, runAt-stop, runAt-inside, rangeAt-stop}
+use Rattle.reading.specs.LineLaws.{Parsed, parsed, from-parsed, places}
 use Rattle.reading.specs.declared.line.WordRead.{WordRead}
 use Rattle.reading.specs.declared.line.CommandDescription.{CommandDescription}
 use Rattle.reading.specs.declared.line.CommandRead.{CommandRead}

@@ -1,27 +1,27 @@
 -- The checks 1, 12 and 2 as the code answers them, and the laws that entries cite.
 -- Assumes nothing.
-use mathlib.Core.Path.{_≡_, refl, _∙_, sym, ap}
+use mathlib.Core.Path.{_≡_, refl, _∙_, ap}
 use mathlib.Core.Bool.{Bool, true, false, cond}
-use mathlib.Core.List.{List, [], _∷_, _++_}
+use mathlib.Core.List.{List, [], _∷_}
 use Prim.Native.Nat.{ℕ, zero, suc, _+_, _≤_}
 use native.Mathlib.Omega.{arith}
 use lib.Dec.{leb}
 use borrow.Author.Tests.{leb-true}
-use lib.ListN.{length, drop}
+use lib.ListN.{length}
 use lib.Seq.{sets}
 use Rattle.store.specs.Splice.{sets-front}
 use Rattle.scan.specs.Utf8.{isUtf8}
-use Rattle.reading.specs.Lists.{Items, itemsOf, textAt, Filename, lone, filenameOf, Option, optionOf, anyKeyless}
-use Rattle.reading.specs.Listed.{pick, pickFrom, listFrom, listOf, optionBytes}
-use Rattle.reading.specs.ListLaws.{text-length}
-use Rattle.reading.specs.OptionLaws.{option-length}
+use Rattle.lists.specs.Lists.{Items, itemsOf, textAt, Filename, lone, filenameOf, Option, optionOf, anyKeyless}
+use Rattle.lists.specs.Listed.{pick, pickFrom, listFrom, listOf, optionBytes}
+use Rattle.lists.specs.ListLaws.{text-length}
+use Rattle.lists.specs.OptionLaws.{option-length}
 use Rattle.reading.specs.Alone.{Answer, checked, itemAtPlace, listAnswer, optionsAnswer, atFront, writtenBy, told, filenameBytes, refusalNo}
 use Rattle.reading.specs.declared.alone.Refusal.{Refusal}
 use Rattle.reading.specs.declared.alone.Checked.{Checked}
-use Rattle.reading.specs.declared.list.Item.{Item}
-use Rattle.reading.specs.declared.list.Picked.{Picked}
-use Rattle.reading.specs.declared.list.Seen.{Seen}
-use Rattle.reading.specs.declared.list.ListRead.{ListRead}
+use Rattle.lists.specs.declared.list.Item.{Item}
+use Rattle.lists.specs.declared.list.Picked.{Picked}
+use Rattle.lists.specs.declared.list.Seen.{Seen}
+use Rattle.lists.specs.declared.list.ListRead.{ListRead}
 
 -- the checks ------------------------------------------------------------------------------------------------------------------------
 

@@ -1,14 +1,5 @@
-pub mod Range
 pub mod Line
-pub mod Text
-pub mod Lists
-pub mod Listed
 pub mod Alone
-pub mod Bounds
-pub mod Stable
 pub mod LineLaws
 pub mod Behind
-pub mod TextLaws
-pub mod ListLaws
-pub mod OptionLaws
 pub mod Checks

@@ -1,17 +1,15 @@
 -- A whole reading: spaces, colons, spaces, a range or none, a word, one `!` or none, spaces, the argument, one 0x0A or none, the end.
 -- Assumes nothing.
 use Prim.Native.Nat.{ℕ, _+_}
-use mathlib.Core.Bool.{Bool, true, false, cond, not}
+use mathlib.Core.Bool.{cond, not}
 use mathlib.Core.List.{List}
 use lib.Dec.{eqb, leb}
 use lib.ListN.{length}
 use Rattle.scan.specs.Bytes.{isSpace, isColon, isWord, isText}
-use Rattle.scan.specs.Scan.{runAt}
-use Rattle.scan.specs.Scan.{byteAt}
-use Rattle.reading.specs.Range.{rangeAt}
-use Rattle.reading.specs.declared.range.RangeRead.{RangeRead}
+use Rattle.scan.specs.Scan.{runAt, byteAt}
+use Rattle.ranges.specs.Range.{rangeAt}
+use Rattle.ranges.specs.declared.range.RangeRead.{RangeRead}
 use Rattle.reading.specs.declared.line.WordRead.{WordRead}
-use Rattle.reading.specs.declared.line.CommandDescription.{CommandDescription}
 use Rattle.reading.specs.declared.line.CommandRead.{CommandRead}
 
 -- past the byte b, if it stands at i

@@ -2,22 +2,21 @@
 -- Assumes nothing.
 use mathlib.Core.Path.{_≡_, refl, _∙_, sym, ap, subst}
 use mathlib.Core.Bool.{Bool, true, false, cond, not, _||_}
-use mathlib.Core.List.{List, [], _∷_, _++_}
-use Prim.Native.Nat.{ℕ, zero, suc, _+_, _-_, _<_, _≤_}
+use mathlib.Core.List.{List, [], _∷_}
+use Prim.Native.Nat.{ℕ, suc, _+_, _-_, _<_, _≤_}
 use native.Mathlib.Omega.{arith}
 use native.Mathlib.Decide.{decLt}
 use lib.Dec.{eqb, leb}
-use borrow.Author.Tests.{eqb-true, eqb-false, eq-eqb}
+use borrow.Author.Tests.{eqb-true, eq-eqb}
 use lib.ListN.{length, getD, drop, length-drop}
 use lib.Seq.{getD-drop}
 use Rattle.scan.specs.Bytes.{isSpace, isColon, isWord, isText}
-use Rattle.scan.specs.Scan.{runFrom, runAt}
-use Rattle.scan.specs.Scan.{byteAt}
-use Rattle.reading.specs.Range.{rangeAt}
+use Rattle.scan.specs.Scan.{runFrom, runAt, byteAt}
+use Rattle.ranges.specs.Range.{rangeAt}
 use Rattle.reading.specs.Line.{skipByte, wordAt, restAt, afterWord, afterRange, startOf, readingOf}
 use Rattle.scan.specs.RunLaws.{run-yes, run-no, run-le, runAt-le, runAt-within, runAt-off, runAt-end, byte-inside}
-use Rattle.reading.specs.Bounds.{In, RangeIn, rangeAt-in}
-use Rattle.reading.specs.declared.range.RangeRead.{RangeRead}
+use Rattle.ranges.specs.Bounds.{In, RangeIn, rangeAt-in}
+use Rattle.ranges.specs.declared.range.RangeRead.{RangeRead}
 use Rattle.reading.specs.declared.line.WordRead.{WordRead}
 use Rattle.reading.specs.declared.line.CommandDescription.{CommandDescription}
 use Rattle.reading.specs.declared.line.CommandRead.{CommandRead}

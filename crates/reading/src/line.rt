@@ -1,7 +1,7 @@
 // One reading of a text: range, word, bang and where the argument stands.
 // Beside parse_cmd_name, parse_cmd_argument, parse_cmd_descr and parse of parse.rs.
-use super::range::RangeRead;
-use super::range::parse_range;
+use ranges::range::RangeRead;
+use ranges::range::parse_range;
 use scan::classes::Kind;
 use scan::classes::classes;
 use scan::part::byte_at;

@@ -1,18 +1,17 @@
 -- Laws of decimal digits: one digit at a time, for a loop; where they end; what stands behind them.
 -- Assumes nothing.
-use mathlib.Core.Path.{_≡_, refl, _∙_, sym, subst}
+use mathlib.Core.Path.{_≡_, refl, _∙_, sym}
 use mathlib.Core.Bool.{Bool, true, false, cond, _&&_, false≢true}
 use mathlib.Core.List.{List, [], _∷_, _++_}
 use Prim.Native.Nat.{ℕ, _+_, _*_, _-_, _^_, _<_, _≤_}
 use native.Mathlib.Omega.{arith}
 use lib.Dec.{leb, ltb, eqb}
 use borrow.Author.Tests.{leb-true, eqb-false, lt-ltb, le-ltb, ne-eqb}
-use lib.ListN.{length, getD, drop, drop-of-length-le, length-drop}
+use lib.ListN.{length, getD, drop, drop-of-length-le}
 use lib.Seq.{drop-append-le}
 use Rattle.scan.specs.Bytes.{isDigit}
 use Rattle.scan.specs.Scan.{runFrom, runAt, valueFrom, valueAt, digitsFrom, digitsAt}
-use Rattle.scan.specs.RunLaws.{drop-step, run-le, run-within, run-stop, runAt-le, runAt-within}
-use Rattle.scan.specs.declared.decimal.Decimal.{Decimal}
+use Rattle.scan.specs.RunLaws.{drop-step, run-stop, runAt-le, runAt-within}
 use Rattle.scan.specs.declared.decimal.Decimal.the-variants.{Absent, Value, TooLarge}
 
 -- a conjunction of tests

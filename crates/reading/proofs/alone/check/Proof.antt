@@ -6,9 +6,6 @@ use Rattle.reading.specs.Checks.{checkOf}
 use borrow.Author.Needs.{needs}
 use Rattle.reading.proofs.alone.check.Statement.{statement}
 use Rattle.reading.proofs.alone.check.Tie as tie
-use Rattle.reading.proofs.alone.check.Reads as reads
-use Rattle.reading.proofs.alone.check.Lts as lts
-use Rattle.scan.proofs.utf8.is_utf8.Reads as is-utf8-reads
 
 returns : tie.Need-returns
 unfolding checkOf

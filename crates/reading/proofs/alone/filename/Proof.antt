@@ -1,17 +1,13 @@
 -- `alone::filename` meets its contract.
 -- Assumes nothing.
-use mathlib.Core.Path.{_≡_, _∙_, sym, ap}
+use mathlib.Core.Path.{_≡_, _∙_, sym}
 use native.Mathlib.Omega.{arith}
 use lib.ListN.{length}
-use Rattle.reading.specs.Lists.{filenameOf, textAt}
+use Rattle.lists.specs.Lists.{filenameOf, textAt}
 use Rattle.reading.specs.Alone.{filenameSeen, filenameBytes}
 use borrow.Author.Needs.{needs}
 use Rattle.reading.proofs.alone.filename.Statement.{statement}
 use Rattle.reading.proofs.alone.filename.Tie as tie
-use Rattle.reading.proofs.alone.filename.Reads as reads
-use Rattle.reading.proofs.alone.filename.Lts as lts
-use Rattle.reading.proofs.alone.lone.Reads as lone-reads
-use Rattle.reading.proofs.list.copy_item.Reads as copy-item-reads
 
 lone-requires : tie.Need-lone-requires
 lone-requires c κs = search needs

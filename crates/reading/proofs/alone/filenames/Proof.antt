@@ -1,6 +1,6 @@
 -- `alone::filenames` meets its contract.
 -- Assumes nothing.
-use mathlib.Core.Path.{_≡_, _∙_, sym}
+use mathlib.Core.Path.{_∙_, sym}
 use native.Mathlib.Omega.{arith}
 use lib.ListN.{length}
 use Rattle.reading.specs.Alone.{Answer, filenamesAlone, filenamesTold, filenameSeen, filenameBytes}
@@ -8,10 +8,6 @@ use Rattle.reading.specs.Checks.{check-room, check-bad, said-refused, sa
 use borrow.Author.Needs.{needs}
 use Rattle.reading.proofs.alone.filenames.Statement.{statement}
 use Rattle.reading.proofs.alone.filenames.Tie as tie
-use Rattle.reading.proofs.alone.filenames.Reads as reads
-use Rattle.reading.proofs.alone.filenames.Lts as lts
-use Rattle.reading.proofs.alone.check.Reads as check-reads
-use Rattle.reading.proofs.alone.filenames_in.Reads as filenames-in-reads
 
 check-requires : tie.Need-check-requires
 check-requires c κs = search needs

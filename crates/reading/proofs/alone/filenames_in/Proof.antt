@@ -1,20 +1,14 @@
 -- `alone::filenames_in` meets its contract.
 -- Assumes nothing.
-use mathlib.Core.Path.{_≡_, _∙_, sym, ap}
+use mathlib.Core.Path.{_∙_, sym, ap}
 use mathlib.Core.Bool.{false}
 use native.Mathlib.Omega.{arith}
-use Rattle.reading.specs.Lists.{filenameOf}
-use Rattle.reading.specs.ListLaws.{text-length}
+use Rattle.lists.specs.ListLaws.{text-length}
 use Rattle.reading.specs.Alone.{filenamesTold, refusalNo, filenameSeen, filenameBytes}
 use Rattle.reading.specs.Checks.{byPick, byList, list-answer, said-refused, said-beyond, said-item, filename-short}
 use borrow.Author.Needs.{needs}
 use Rattle.reading.proofs.alone.filenames_in.Statement.{statement}
 use Rattle.reading.proofs.alone.filenames_in.Tie as tie
-use Rattle.reading.proofs.alone.filenames_in.Reads as reads
-use Rattle.reading.proofs.alone.filenames_in.Lts as lts
-use Rattle.reading.proofs.alone.filename.Reads as filename-reads
-use Rattle.reading.proofs.list.parse_list.Reads as parse-list-reads
-use Rattle.scan.proofs.classes.classes.Reads as classes-reads
 
 classes-requires : tie.Need-classes-requires
 classes-requires c κs = search needs

@@ -3,13 +3,10 @@
 use Prim.Native.Nat.{_+_}
 use native.Mathlib.Omega.{arith}
 use borrow.Author.Tests.{eq-eqb, ne-eqb}
-use Rattle.reading.specs.Lists.{lone}
+use Rattle.lists.specs.Lists.{lone}
 use borrow.Author.Needs.{needs}
 use Rattle.reading.proofs.alone.lone.Statement.{statement}
 use Rattle.reading.proofs.alone.lone.Tie as tie
-use Rattle.reading.proofs.alone.lone.Reads as reads
-use Rattle.reading.proofs.alone.lone.Lts as lts
-use Rattle.scan.proofs.part.byte_at.Reads as byte-at-reads
 
 returns : tie.Need-returns
 unfolding lone

@@ -1,18 +1,14 @@
 -- `alone::options` meets its contract.
 -- Assumes nothing.
-use mathlib.Core.Path.{_≡_, _∙_, sym}
+use mathlib.Core.Path.{_∙_, sym}
 use native.Mathlib.Omega.{arith}
 use lib.ListN.{length}
-use Rattle.reading.specs.Listed.{optionSeen, optionBytes}
+use Rattle.lists.specs.Listed.{optionSeen, optionBytes}
 use Rattle.reading.specs.Alone.{Answer, optionsAlone, optionsTold}
 use Rattle.reading.specs.Checks.{check-room, check-bad, said-refused, said-checked}
 use borrow.Author.Needs.{needs}
 use Rattle.reading.proofs.alone.options.Statement.{statement}
 use Rattle.reading.proofs.alone.options.Tie as tie
-use Rattle.reading.proofs.alone.options.Reads as reads
-use Rattle.reading.proofs.alone.options.Lts as lts
-use Rattle.reading.proofs.alone.check.Reads as check-reads
-use Rattle.reading.proofs.alone.options_in.Reads as options-in-reads
 
 check-requires : tie.Need-check-requires
 check-requires c κs = search needs

@@ -1,19 +1,14 @@
 -- `alone::options_in` meets its contract.
 -- Assumes nothing.
-use mathlib.Core.Path.{_≡_, _∙_, sym, ap}
+use mathlib.Core.Path.{_∙_, sym, ap}
 use native.Mathlib.Omega.{arith}
-use Rattle.reading.specs.Listed.{optionSeen, optionBytes}
-use Rattle.reading.specs.ListLaws.{text-length}
-use Rattle.reading.specs.Alone.{Answer, optionsTold, refusalNo}
+use Rattle.lists.specs.Listed.{optionSeen, optionBytes}
+use Rattle.lists.specs.ListLaws.{text-length}
+use Rattle.reading.specs.Alone.{optionsTold, refusalNo}
 use Rattle.reading.specs.Checks.{byOptions, options-answer, options-keyless, options-pick, said-refused, said-beyond, said-item, option-short}
 use borrow.Author.Needs.{needs}
 use Rattle.reading.proofs.alone.options_in.Statement.{statement}
 use Rattle.reading.proofs.alone.options_in.Tie as tie
-use Rattle.reading.proofs.alone.options_in.Reads as reads
-use Rattle.reading.proofs.alone.options_in.Lts as lts
-use Rattle.reading.proofs.list.parse_list.Reads as parse-list-reads
-use Rattle.reading.proofs.option.copy_option.Reads as copy-option-reads
-use Rattle.scan.proofs.classes.classes.Reads as classes-reads
 
 classes-requires : tie.Need-classes-requires
 classes-requires c κs = search needs

@@ -6,12 +6,6 @@ use Rattle.reading.specs.Alone.{rangeTold, rangeAlone, refusalNo}
 use borrow.Author.Needs.{needs}
 use Rattle.reading.proofs.alone.range.Statement.{statement}
 use Rattle.reading.proofs.alone.range.Tie as tie
-use Rattle.reading.proofs.alone.range.Reads as reads
-use Rattle.reading.proofs.alone.range.Lts as lts
-use Rattle.reading.proofs.alone.whole_range.Reads as whole-range-reads
-use Rattle.reading.proofs.range.parse_range.Reads as parse-range-reads
-use Rattle.scan.proofs.classes.classes.Reads as classes-reads
-use Rattle.scan.proofs.utf8.is_utf8.Reads as is-utf8-reads
 
 returns : tie.Need-returns
 unfolding rangeTold rangeAlone refusalNo

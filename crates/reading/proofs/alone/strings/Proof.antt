@@ -1,6 +1,6 @@
 -- `alone::strings` meets its contract.
 -- Assumes nothing.
-use mathlib.Core.Path.{_≡_, _∙_, sym}
+use mathlib.Core.Path.{_∙_, sym}
 use native.Mathlib.Omega.{arith}
 use lib.ListN.{length}
 use Rattle.reading.specs.Alone.{Answer, stringsAlone, stringsTold}
@@ -8,10 +8,6 @@ use Rattle.reading.specs.Checks.{check-room, check-bad, said-refused, sa
 use borrow.Author.Needs.{needs}
 use Rattle.reading.proofs.alone.strings.Statement.{statement}
 use Rattle.reading.proofs.alone.strings.Tie as tie
-use Rattle.reading.proofs.alone.strings.Reads as reads
-use Rattle.reading.proofs.alone.strings.Lts as lts
-use Rattle.reading.proofs.alone.check.Reads as check-reads
-use Rattle.reading.proofs.alone.strings_in.Reads as strings-in-reads
 
 check-requires : tie.Need-check-requires
 check-requires c κs = search needs

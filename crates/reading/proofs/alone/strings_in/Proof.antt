@@ -1,20 +1,15 @@
 -- `alone::strings_in` meets its contract.
 -- Assumes nothing.
-use mathlib.Core.Path.{_≡_, _∙_, sym, ap}
+use mathlib.Core.Path.{_∙_, sym, ap}
 use mathlib.Core.Bool.{false}
 use native.Mathlib.Omega.{arith}
 use lib.ListN.{length}
-use Rattle.reading.specs.ListLaws.{text-length}
+use Rattle.lists.specs.ListLaws.{text-length}
 use Rattle.reading.specs.Alone.{stringsTold, refusalNo}
 use Rattle.reading.specs.Checks.{byPick, byList, list-answer, said-refused, said-beyond, said-item}
 use borrow.Author.Needs.{needs}
 use Rattle.reading.proofs.alone.strings_in.Statement.{statement}
 use Rattle.reading.proofs.alone.strings_in.Tie as tie
-use Rattle.reading.proofs.alone.strings_in.Reads as reads
-use Rattle.reading.proofs.alone.strings_in.Lts as lts
-use Rattle.reading.proofs.list.copy_item.Reads as copy-item-reads
-use Rattle.reading.proofs.list.parse_list.Reads as parse-list-reads
-use Rattle.scan.proofs.classes.classes.Reads as classes-reads
 
 classes-requires : tie.Need-classes-requires
 classes-requires c κs = search needs

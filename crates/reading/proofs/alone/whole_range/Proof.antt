@@ -5,8 +5,6 @@ use Rattle.reading.specs.Alone.{rangeTold, rangeAnswer, refusalNo}
 use borrow.Author.Needs.{needs}
 use Rattle.reading.proofs.alone.whole_range.Statement.{statement}
 use Rattle.reading.proofs.alone.whole_range.Tie as tie
-use Rattle.reading.proofs.alone.whole_range.Reads as reads
-use Rattle.reading.proofs.alone.whole_range.Lts as lts
 
 enum-known-r : tie.Need-enum-known-r
 enum-known-r c = search needs

@@ -5,10 +5,6 @@ use Rattle.reading.specs.Line.{startOf}
 use borrow.Author.Needs.{needs}
 use Rattle.reading.proofs.line.line_start.Statement.{statement}
 use Rattle.reading.proofs.line.line_start.Tie as tie
-use Rattle.reading.proofs.line.line_start.Reads as reads
-use Rattle.reading.proofs.line.line_start.Lts as lts
-use Rattle.scan.proofs.run.run_end.Reads as run-end-reads
-use Rattle.scan.proofs.run.skip_spaces.Reads as skip-spaces-reads
 
 skip-spaces-requires : tie.Need-skip-spaces-requires
 skip-spaces-requires c κs = search needs

@@ -5,10 +5,6 @@ use Rattle.reading.specs.Line.{afterWord}
 use borrow.Author.Needs.{needs}
 use Rattle.reading.proofs.line.parse_cmd_after_range.Statement.{statement}
 use Rattle.reading.proofs.line.parse_cmd_after_range.Tie as tie
-use Rattle.reading.proofs.line.parse_cmd_after_range.Reads as reads
-use Rattle.reading.proofs.line.parse_cmd_after_range.Lts as lts
-use Rattle.reading.proofs.line.parse_cmd_argument.Reads as parse-cmd-argument-reads
-use Rattle.reading.proofs.line.parse_cmd_name.Reads as parse-cmd-name-reads
 
 parse-cmd-name-requires : tie.Need-parse-cmd-name-requires
 parse-cmd-name-requires c κs = search needs

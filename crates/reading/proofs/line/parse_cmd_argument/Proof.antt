@@ -6,11 +6,6 @@ use Rattle.reading.specs.Line.{restAt}
 use borrow.Author.Needs.{needs}
 use Rattle.reading.proofs.line.parse_cmd_argument.Statement.{statement}
 use Rattle.reading.proofs.line.parse_cmd_argument.Tie as tie
-use Rattle.reading.proofs.line.parse_cmd_argument.Reads as reads
-use Rattle.reading.proofs.line.parse_cmd_argument.Lts as lts
-use Rattle.reading.proofs.line.skip_byte.Reads as skip-byte-reads
-use Rattle.reading.proofs.line.text_from.Reads as text-from-reads
-use Rattle.scan.proofs.run.skip_spaces.Reads as skip-spaces-reads
 
 skip-byte-requires : tie.Need-skip-byte-requires
 skip-byte-requires c κs = search needs

@@ -5,11 +5,6 @@ use Rattle.reading.specs.Line.{readingOf, afterRange}
 use borrow.Author.Needs.{needs}
 use Rattle.reading.proofs.line.parse_cmd_descr.Statement.{statement}
 use Rattle.reading.proofs.line.parse_cmd_descr.Tie as tie
-use Rattle.reading.proofs.line.parse_cmd_descr.Reads as reads
-use Rattle.reading.proofs.line.parse_cmd_descr.Lts as lts
-use Rattle.reading.proofs.line.line_start.Reads as line-start-reads
-use Rattle.reading.proofs.line.parse_cmd_after_range.Reads as parse-cmd-after-range-reads
-use Rattle.reading.proofs.range.parse_range.Reads as parse-range-reads
 
 line-start-requires : tie.Need-line-start-requires
 line-start-requires c κs = search needs

@@ -8,10 +8,6 @@ use Rattle.scan.specs.RunLaws.{byte-inside}
 use borrow.Author.Needs.{needs}
 use Rattle.reading.proofs.line.parse_cmd_name.Statement.{statement}
 use Rattle.reading.proofs.line.parse_cmd_name.Tie as tie
-use Rattle.reading.proofs.line.parse_cmd_name.Reads as reads
-use Rattle.reading.proofs.line.parse_cmd_name.Lts as lts
-use Rattle.scan.proofs.part.byte_at.Reads as byte-at-reads
-use Rattle.scan.proofs.run.word_end.Reads as word-end-reads
 
 byte-at-requires : tie.Need-byte-at-requires
 byte-at-requires c κs = search needs

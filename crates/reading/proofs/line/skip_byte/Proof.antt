@@ -2,15 +2,12 @@
 -- Assumes nothing.
 use mathlib.Core.Path.{sym, _∙_}
 use native.Mathlib.Omega.{arith}
-use borrow.Author.Tests.{eq-eqb, ne-eqb, le-leb, lt-leb}
+use borrow.Author.Tests.{eq-eqb, ne-eqb}
 use Rattle.reading.specs.Line.{skipByte}
 use Rattle.scan.specs.RunLaws.{byte-inside}
 use borrow.Author.Needs.{needs}
 use Rattle.reading.proofs.line.skip_byte.Statement.{statement}
 use Rattle.reading.proofs.line.skip_byte.Tie as tie
-use Rattle.reading.proofs.line.skip_byte.Reads as reads
-use Rattle.reading.proofs.line.skip_byte.Lts as lts
-use Rattle.scan.proofs.part.byte_at.Reads as byte-at-reads
 
 byte-at-requires : tie.Need-byte-at-requires
 byte-at-requires c κs = search needs

@@ -5,9 +5,6 @@ use Rattle.scan.specs.RunLaws.{runAt-later}
 use borrow.Author.Needs.{needs}
 use Rattle.reading.proofs.line.text_from.Statement.{statement}
 use Rattle.reading.proofs.line.text_from.Tie as tie
-use Rattle.reading.proofs.line.text_from.Reads as reads
-use Rattle.reading.proofs.line.text_from.Lts as lts
-use Rattle.scan.proofs.run.run_end.Reads as run-end-reads
 
 returns : tie.Need-returns
 returns c = runAt-later _ _ _ _ (search needs) (search needs)

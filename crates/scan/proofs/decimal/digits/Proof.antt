@@ -13,10 +13,6 @@ use Rattle.scan.specs.RunLaws.{runAt-on, runAt-off, runAt-end, runAt-le}
 use borrow.Author.Needs.{needs}
 use Rattle.scan.proofs.decimal.digits.Statement.{statement}
 use Rattle.scan.proofs.decimal.digits.Tie as tie
-use Rattle.scan.proofs.decimal.digits.Reads as reads
-use Rattle.scan.proofs.decimal.digits.Lts as lts
-use Rattle.scan.proofs.classes.is_kind.Reads as is-kind-reads
-use Rattle.scan.proofs.decimal.number.Reads as number-reads
 
 abbrev Inv-loop : tie.InvT-loop
 Inv-loop s at classes n₀ i₀ n i = (at ≤ i) × (n < 2 ^ 64) × (runAt isDigit s at ≡ runAt isDigit s i) × (valueAt 0 s at ≡ valueAt n s i)

@@ -1,11 +1,8 @@
 -- `decimal::number` meets its contract.
 -- Assumes nothing.
 use borrow.Author.Tests.{eq-eqb, ne-eqb}
-use borrow.Author.Needs.{needs}
 use Rattle.scan.proofs.decimal.number.Statement.{statement}
 use Rattle.scan.proofs.decimal.number.Tie as tie
-use Rattle.scan.proofs.decimal.number.Reads as reads
-use Rattle.scan.proofs.decimal.number.Lts as lts
 
 returns : tie.Need-returns
 returns c = simp (eq-eqb _ _ (c .if1 .taken))

@@ -6,8 +6,6 @@ use Rattle.scan.specs.PartLaws.{part-none, part-ends, part-past}
 use borrow.Author.Needs.{needs}
 use Rattle.scan.proofs.part.part.Statement.{statement}
 use Rattle.scan.proofs.part.part.Tie as tie
-use Rattle.scan.proofs.part.part.Reads as reads
-use Rattle.scan.proofs.part.part.Lts as lts
 
 part-result-start : tie.Need-part-result-start
 part-result-start c = search needs

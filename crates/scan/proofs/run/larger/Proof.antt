@@ -1,11 +1,8 @@
 -- `run::larger` meets its contract.
 -- Assumes nothing.
 use native.Mathlib.Omega.{arith}
-use borrow.Author.Needs.{needs}
 use Rattle.scan.proofs.run.larger.Statement.{statement}
 use Rattle.scan.proofs.run.larger.Tie as tie
-use Rattle.scan.proofs.run.larger.Reads as reads
-use Rattle.scan.proofs.run.larger.Lts as lts
 
 returns : tie.Need-returns
 returns c = (omega arith, omega arith)

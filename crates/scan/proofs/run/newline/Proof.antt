@@ -3,11 +3,8 @@
 use native.Mathlib.Omega.{arith}
 use borrow.Author.Tests.{ne-eqb}
 use Rattle.scan.specs.Bytes.{isText}
-use borrow.Author.Needs.{needs}
 use Rattle.scan.proofs.run.newline.Statement.{statement}
 use Rattle.scan.proofs.run.newline.Tie as tie
-use Rattle.scan.proofs.run.newline.Reads as reads
-use Rattle.scan.proofs.run.newline.Lts as lts
 
 returns : tie.Need-returns
 returns c = λ h. absurd (omega arith)

@@ -10,10 +10,6 @@ use Rattle.scan.specs.RunLaws.{runAt-on, runAt-end}
 use borrow.Author.Needs.{needs}
 use Rattle.scan.proofs.run.newlines.Statement.{statement}
 use Rattle.scan.proofs.run.newlines.Tie as tie
-use Rattle.scan.proofs.run.newlines.Reads as reads
-use Rattle.scan.proofs.run.newlines.Lts as lts
-use Rattle.scan.proofs.run.larger.Reads as larger-reads
-use Rattle.scan.proofs.run.newline.Reads as newline-reads
 
 abbrev Inv-loop : tie.InvT-loop
 Inv-loop s m₀ i₀ m i = (m < 256) × ((i < length s + 1) × (m ≡ 0 → runAt isText s 0 ≡ runAt isText s i))

@@ -10,9 +10,6 @@ use Rattle.scan.specs.Scan.{runAt}
 use Rattle.scan.specs.RunLaws.{runAt-on, runAt-off, runAt-end}
 use Rattle.scan.proofs.run.run_end.Statement.{statement}
 use Rattle.scan.proofs.run.run_end.Tie as tie
-use Rattle.scan.proofs.run.run_end.Reads as reads
-use Rattle.scan.proofs.run.run_end.Lts as lts
-use Rattle.scan.proofs.classes.is_kind.Reads as is-kind-reads
 
 abbrev Inv-loop : tie.InvT-loop
 Inv-loop s at classes k i₀ i = runAt (isKind k) s at ≡ runAt (isKind k) s i

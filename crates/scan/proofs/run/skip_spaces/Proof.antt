@@ -4,9 +4,6 @@ use Rattle.scan.specs.Bytes.{isKind}
 use borrow.Author.Needs.{needs}
 use Rattle.scan.proofs.run.skip_spaces.Statement.{statement}
 use Rattle.scan.proofs.run.skip_spaces.Tie as tie
-use Rattle.scan.proofs.run.skip_spaces.Reads as reads
-use Rattle.scan.proofs.run.skip_spaces.Lts as lts
-use Rattle.scan.proofs.run.run_end.Reads as run-end-reads
 
 run-end-requires : tie.Need-run-end-requires
 run-end-requires c κs = search needs

@@ -1,14 +1,9 @@
 -- `run::text_stop` meets its contract.
 -- Assumes nothing.
-use mathlib.Core.Path.{_≡_, _∙_, sym}
 use Rattle.scan.specs.Bytes.{isKind}
 use borrow.Author.Needs.{needs}
 use Rattle.scan.proofs.run.text_stop.Statement.{statement}
 use Rattle.scan.proofs.run.text_stop.Tie as tie
-use Rattle.scan.proofs.run.text_stop.Reads as reads
-use Rattle.scan.proofs.run.text_stop.Lts as lts
-use Rattle.scan.proofs.run.newlines.Reads as newlines-reads
-use Rattle.scan.proofs.run.run_end.Reads as run-end-reads
 
 newlines-requires : tie.Need-newlines-requires
 newlines-requires c κs = search needs

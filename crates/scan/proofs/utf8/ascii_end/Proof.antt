@@ -1,16 +1,13 @@
 -- `utf8::ascii_end` meets its contract. The invariant is the contract, at i.
 -- Assumes nothing.
-use mathlib.Core.Path.{_≡_, _∙_, sym}
+use mathlib.Core.Path.{_≡_, _∙_}
 use Prim.Native.Nat.{_-_}
 use lib.ListN.{length}
 use borrow.Author.Needs.{needs}
-use Rattle.scan.specs.Utf8.{isUtf8, utf8At}
-use Rattle.scan.specs.Utf8.{whole}
+use Rattle.scan.specs.Utf8.{isUtf8, utf8At, whole}
 use Rattle.scan.specs.Utf8Laws.{ascii-on}
 use Rattle.scan.proofs.utf8.ascii_end.Statement.{statement}
 use Rattle.scan.proofs.utf8.ascii_end.Tie as tie
-use Rattle.scan.proofs.utf8.ascii_end.Reads as reads
-use Rattle.scan.proofs.utf8.ascii_end.Lts as lts
 
 abbrev Inv-loop : tie.InvT-loop
 Inv-loop s i₀ i = isUtf8 s ≡ utf8At whole s i

@@ -5,9 +5,6 @@ use Rattle.scan.specs.Utf8.{followers}
 use borrow.Author.Needs.{needs}
 use Rattle.scan.proofs.utf8.followers.Statement.{statement}
 use Rattle.scan.proofs.utf8.followers.Tie as tie
-use Rattle.scan.proofs.utf8.followers.Reads as reads
-use Rattle.scan.proofs.utf8.followers.Lts as lts
-use Rattle.scan.proofs.utf8.within.Reads as within-reads
 
 within-requires : tie.Need-within-requires
 within-requires c κs = search needs

@@ -1,19 +1,14 @@
 -- `utf8::greatest` meets its contract. The invariant: while no byte above 127 was seen, the text is judged from i as from its start.
 -- Assumes nothing.
-use mathlib.Core.Path.{_≡_, _∙_, sym}
+use mathlib.Core.Path.{_≡_, _∙_}
 use Prim.Native.Nat.{_-_, _<_}
 use lib.ListN.{length}
 use native.Mathlib.Omega.{arith}
-use Rattle.scan.specs.Utf8.{isUtf8, utf8At}
-use Rattle.scan.specs.Utf8Laws.{utf8-end}
-use Rattle.scan.specs.Utf8.{whole}
-use Rattle.scan.specs.Utf8Laws.{ascii-on}
+use Rattle.scan.specs.Utf8.{isUtf8, utf8At, whole}
+use Rattle.scan.specs.Utf8Laws.{utf8-end, ascii-on}
 use borrow.Author.Needs.{needs}
 use Rattle.scan.proofs.utf8.greatest.Statement.{statement}
 use Rattle.scan.proofs.utf8.greatest.Tie as tie
-use Rattle.scan.proofs.utf8.greatest.Reads as reads
-use Rattle.scan.proofs.utf8.greatest.Lts as lts
-use Rattle.scan.proofs.run.larger.Reads as larger-reads
 
 abbrev Inv-loop : tie.InvT-loop
 Inv-loop s m₀ i₀ m i = (m < 256) × (m < 128 → isUtf8 s ≡ utf8At whole s i)

@@ -2,11 +2,8 @@
 -- Assumes nothing.
 use borrow.Author.Tests.{eq-eqb, ne-eqb}
 use Rattle.scan.specs.Utf8.{highest}
-use borrow.Author.Needs.{needs}
 use Rattle.scan.proofs.utf8.highest.Statement.{statement}
 use Rattle.scan.proofs.utf8.highest.Tie as tie
-use Rattle.scan.proofs.utf8.highest.Reads as reads
-use Rattle.scan.proofs.utf8.highest.Lts as lts
 
 returns : tie.Need-returns
 unfolding highest

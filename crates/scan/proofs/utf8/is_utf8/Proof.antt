@@ -8,11 +8,6 @@ use Rattle.scan.specs.Utf8Laws.{utf8-next, utf8-bad, utf8-end}
 use borrow.Author.Needs.{needs}
 use Rattle.scan.proofs.utf8.is_utf8.Statement.{statement}
 use Rattle.scan.proofs.utf8.is_utf8.Tie as tie
-use Rattle.scan.proofs.utf8.is_utf8.Reads as reads
-use Rattle.scan.proofs.utf8.is_utf8.Lts as lts
-use Rattle.scan.proofs.utf8.ascii_end.Reads as ascii-end-reads
-use Rattle.scan.proofs.utf8.greatest.Reads as greatest-reads
-use Rattle.scan.proofs.utf8.utf8_step.Reads as utf8-step-reads
 
 abbrev Inv-loop : tie.InvT-loop
 Inv-loop s p₀ i₀ p i = isUtf8 s ≡ utf8At p s i

@@ -2,11 +2,8 @@
 -- Assumes nothing.
 use borrow.Author.Tests.{eq-eqb, ne-eqb}
 use Rattle.scan.specs.Utf8.{lowest}
-use borrow.Author.Needs.{needs}
 use Rattle.scan.proofs.utf8.lowest.Statement.{statement}
 use Rattle.scan.proofs.utf8.lowest.Tie as tie
-use Rattle.scan.proofs.utf8.lowest.Reads as reads
-use Rattle.scan.proofs.utf8.lowest.Lts as lts
 
 returns : tie.Need-returns
 unfolding lowest

@@ -6,12 +6,6 @@ use Rattle.scan.specs.Utf8.{utf8Step}
 use borrow.Author.Needs.{needs}
 use Rattle.scan.proofs.utf8.utf8_step.Statement.{statement}
 use Rattle.scan.proofs.utf8.utf8_step.Tie as tie
-use Rattle.scan.proofs.utf8.utf8_step.Reads as reads
-use Rattle.scan.proofs.utf8.utf8_step.Lts as lts
-use Rattle.scan.proofs.utf8.followers.Reads as followers-reads
-use Rattle.scan.proofs.utf8.highest.Reads as highest-reads
-use Rattle.scan.proofs.utf8.lowest.Reads as lowest-reads
-use Rattle.scan.proofs.utf8.within.Reads as within-reads
 
 followers-requires : tie.Need-followers-requires
 followers-requires c κs = search needs

@@ -1,11 +1,8 @@
 -- `utf8::within` meets its contract.
 -- Assumes nothing.
 use borrow.Author.Tests.{le-leb, lt-leb}
-use borrow.Author.Needs.{needs}
 use Rattle.scan.proofs.utf8.within.Statement.{statement}
 use Rattle.scan.proofs.utf8.within.Tie as tie
-use Rattle.scan.proofs.utf8.within.Reads as reads
-use Rattle.scan.proofs.utf8.within.Lts as lts
 
 returns : tie.Need-returns
 returns c = simp (le-leb _ _ (c .if1 .taken))

@@ -1,0 +1,156 @@
+// The text of an item, quoted or plain.
+// Beside parse_quote and parse_text of parse.rs: runs of bytes that stand for themselves, and escapes between them.
+use scan::classes::Kind;
+use scan::part::byte_at;
+use scan::part::part;
+use scan::run::run_end;
+use store::put_bytes;
+ghost use mathlib.Core.Path.{_≡_};
+ghost use Rattle.scan.specs.Bytes.{Classes};
+ghost use Rattle.scan.specs.Scan.{runAt};
+ghost use Rattle.store.specs.Splice.{Put, Room};
+ghost use Rattle.lists.specs.Lists.{textAt};
+ghost use Rattle.lists.specs.Text.{quotedEscape, plainEscape, escapeOf, own, stopAt as stopOf, textEndAt, bytesAt};
+
+// What a backslash and the byte after it stand for.
+pub enum Escape {
+    Byte(u8),
+    Bad,
+}
+
+// Where a text ends.
+pub enum TextEnd {
+    End(usize),
+    Bad,
+}
+
+// The text of an item without its quotes: whether it is quoted, and where its first byte or escape stands.
+pub struct ItemText {
+    pub quoted: bool,
+    pub from: usize,
+}
+
+pub fn item_text(s: &[u8], at: usize) -> ItemText
+    ensures { λ r. ⌜ bytesAt (r .quoted) (now (s .entry)) (r .from) ≡ textAt (now (s .entry)) at ⌝ }
+{
+    if byte_at(s, at) == 0x22 {
+        return ItemText {
+            quoted: true,
+            from: at + 1,
+        };
+    }
+    ItemText {
+        quoted: false,
+        from: at,
+    }
+}
+
+fn quoted_escape(b: u8) -> Escape
+    ensures { λ r. ⌜ r ≡ quotedEscape b ⌝ }
+{
+    match b {
+        0x74 => Escape::Byte(0x09),
+        0x72 => Escape::Byte(0x0D),
+        0x6E => Escape::Byte(0x0A),
+        0x5C => Escape::Byte(0x5C),
+        0x22 => Escape::Byte(0x22),
+        _ => Escape::Bad,
+    }
+}
+
+fn plain_escape(b: u8) -> Escape
+    ensures { λ r. ⌜ r ≡ plainEscape b ⌝ }
+{
+    match b {
+        0x5C => Escape::Byte(0x5C),
+        0x20 => Escape::Byte(0x20),
+        0x23 => Escape::Byte(0x23),
+        0x25 => Escape::Byte(0x25),
+        0x7C => Escape::Byte(0x7C),
+        0x22 => Escape::Byte(0x22),
+        _ => Escape::Bad,
+    }
+}
+
+pub fn escape_of(quoted: bool, b: u8) -> Escape
+    ensures { λ r. ⌜ r ≡ escapeOf quoted b ⌝ }
+{
+    if quoted {
+        quoted_escape(b)
+    } else {
+        plain_escape(b)
+    }
+}
+
+// Past the bytes from `at` on that stand for themselves.
+fn own_end(s: &[u8], at: usize, quoted: bool, classes: &[u8; 256]) -> usize
+    requires { ⌜ Classes (now classes) ⌝ }
+    ensures { λ r. ⌜ r ≡ runAt (own quoted) (now (s .entry)) at ⌝ }
+{
+    if quoted {
+        run_end(s, at, classes, Kind::Quoted)
+    } else {
+        run_end(s, at, classes, Kind::Plain)
+    }
+}
+
+fn stop_at(quoted: bool, i: usize, b: u8) -> TextEnd
+    ensures { λ r. ⌜ r ≡ stopOf quoted i b ⌝ }
+{
+    if quoted {
+        if b == 0x22 {
+            return TextEnd::End(i);
+        }
+        return TextEnd::Bad;
+    }
+    TextEnd::End(i)
+}
+
+// Where the text at `at` ends.
+pub fn text_end(s: &[u8], at: usize, quoted: bool, classes: &[u8; 256]) -> TextEnd
+    requires { ⌜ Classes (now classes) ⌝ }
+    ensures { λ r. ⌜ r ≡ textEndAt quoted (now (s .entry)) at ⌝ }
+{
+    let mut i = at;
+    loop {
+        let j = own_end(s, i, quoted, classes);
+        let b = byte_at(s, j);
+        if b != 0x5C {
+            return stop_at(quoted, j, b);
+        }
+        let Escape::Byte(_) = escape_of(quoted, byte_at(s, j + 1)) else {
+            return TextEnd::Bad;
+        };
+        i = j + 2;
+    }
+}
+
+// Writes the bytes that the text at `at` stands for from place `to` on, and answers the place after them.
+pub fn copy_text(
+    s: &[u8],
+    at: usize,
+    quoted: bool,
+    classes: &[u8; 256],
+    store: &mut [u8],
+    to: usize,
+) -> usize
+    requires { ⌜ Classes (now classes) ⌝ }
+    requires { ⌜ Room (now store) to (bytesAt quoted (now s) at) ⌝ }
+    ensures { λ r. ⌜ Put (now (store .entry)) (now (store .exit)) to r (bytesAt quoted (now (s .entry)) at) ⌝ }
+{
+    let mut i = at;
+    let mut n = to;
+    loop {
+        let j = own_end(s, i, quoted, classes);
+        let m = put_bytes(store, n, part(s, i, j));
+        if byte_at(s, j) != 0x5C {
+            return m;
+        }
+        let Escape::Byte(c) = escape_of(quoted, byte_at(s, j + 1)) else {
+            return m;
+        };
+        store[m] = c;
+        n = m + 1;
+        i = j + 2;
+    }
+}

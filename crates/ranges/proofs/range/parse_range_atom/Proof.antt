@@ -1,0 +1,67 @@
+-- `range::parse_range_atom` meets its contract.
+-- Assumes nothing.
+use mathlib.Core.Path.{sym, _∙_}
+use lib.ListN.{List·getD-eq-default}
+use Rattle.ranges.specs.Range.{atomAt, numberOr, signAtom}
+use borrow.Author.Needs.{needs}
+use Rattle.ranges.proofs.range.parse_range_atom.Statement.{statement}
+use Rattle.ranges.proofs.range.parse_range_atom.Tie as tie
+
+digits-requires : tie.Need-digits-requires
+digits-requires c κs = search needs
+
+enum-known-n : tie.Need-enum-known-n
+enum-known-n c = search needs
+
+enum-told : tie.Need-enum-told
+enum-told c = search needs
+
+enum-told-2 : tie.Need-enum-told-2
+enum-told-2 c = search needs
+
+shared-slice-read-parse-range-sign : tie.Need-shared-slice-read-parse-range-sign
+shared-slice-read-parse-range-sign c = search needs
+
+add-byte-at : tie.Need-add-byte-at
+add-byte-at c = search needs
+
+byte-at-requires : tie.Need-byte-at-requires
+byte-at-requires c κs = search needs
+
+parse-range-sign-requires : tie.Need-parse-range-sign-requires
+parse-range-sign-requires c κs = search needs
+
+returns : tie.Need-returns
+unfolding atomAt numberOr
+returns c = rw (sym (c .before .before .before .digits .ensures) ∙ c .before .n .given .1)
+
+returns-2 : tie.Need-returns-2
+unfolding atomAt numberOr
+returns-2 c = rw (sym (c .before .before .digits .ensures) ∙ c .enum-told .given .1)
+
+returns-3 : tie.Need-returns-3
+unfolding atomAt numberOr
+returns-3 c = rw (sym (c .before .before .before .before .before .before .digits .ensures) ∙ c .before .before .before .before .enum-told2 .given .1, c .parse-range-sign .ensures, c .before .byte-at .ensures)
+
+returns-4 : tie.Need-returns-4
+unfolding atomAt numberOr signAtom
+returns-4 c =
+    let s = c .before .before .before .before .before .args .s .now in
+    rw (sym (c .before .before .before .digits .ensures) ∙ c .before .enum-told2 .given .1, List·getD-eq-default s 0 (c .if1 .left))
+
+pub parse-range-atom-spec : {M : Type 1} → statement M
+parse-range-atom-spec =
+    tie.close
+    (tie.spec
+    digits-requires
+    enum-known-n
+    enum-told
+    enum-told-2
+    shared-slice-read-parse-range-sign
+    add-byte-at
+    byte-at-requires
+    parse-range-sign-requires
+    returns
+    returns-2
+    returns-3
+    returns-4)

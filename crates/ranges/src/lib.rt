@@ -1,0 +1,2 @@
+// Ranges of an Ex command line.
+pub mod range;

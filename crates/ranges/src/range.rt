@@ -1,0 +1,235 @@
+// Ranges: an end is an optional atom and then offsets; a range is an end, or two ends parted by `,` or `;`.
+// Beside parse_range_modifier, parse_range_number, parse_range_mark, parse_range_atom, parse_range_sep and parse_range of parse.rs.
+use scan::classes::Kind;
+use scan::classes::is_kind;
+use scan::decimal::Decimal;
+use scan::decimal::digits;
+use scan::part::byte_at;
+ghost use mathlib.Core.Path.{_≡_};
+ghost use Prim.Native.Nat.{_+_, _^_, _<_};
+ghost use Rattle.scan.specs.Bytes.{Classes};
+ghost use Rattle.ranges.specs.Range.{escapedAtom, markAtom, signAtom, atomAt, isSign, offsetsAt, withOffsets, endingAt, double as doubleOf, rangeAt};
+
+pub enum MoveDir1D {
+    Next,
+    Previous,
+}
+
+// An atom. `\&` always searches forward, and a mark is the byte that names it.
+pub enum RangeEndingType {
+    Unspecified,
+    Absolute(u64),
+    Current,
+    All,
+    Last,
+    Search(MoveDir1D),
+    SubPatSearch,
+    Mark(u8),
+}
+
+// An atom and the position past it.
+pub enum AtomRead {
+    Absent,
+    Found(RangeEndingType, usize),
+    TooLarge,
+}
+
+// The position past the offsets.
+pub enum OffsetsRead {
+    End(usize),
+    TooLarge,
+}
+
+// An end: its offsets stand from `from` up to `to`.
+pub struct RangeEnding {
+    pub atom: RangeEndingType,
+    pub from: usize,
+    pub to: usize,
+}
+
+pub enum EndingRead {
+    Found(RangeEnding),
+    TooLarge,
+}
+
+// The separator: `,` is Cursor, `;` is Start.
+pub enum RangeSearchInit {
+    Cursor,
+    Start,
+}
+
+pub enum RangeSpec {
+    Single(RangeEnding),
+    Double(RangeEnding, RangeEnding, RangeSearchInit),
+}
+
+// A range and the position past it.
+pub enum RangeRead {
+    Absent,
+    Found(RangeSpec, usize),
+    TooLarge,
+}
+
+pub fn is_sign(b: u8) -> bool
+    ensures { λ r. ⌜ r ≡ isSign b ⌝ }
+{
+    b == 0x2B || b == 0x2D
+}
+
+// The position past the offsets that start at `at`.
+fn parse_range_modifiers(s: &[u8], at: usize, classes: &[u8; 256]) -> OffsetsRead
+    requires { ⌜ Classes (now classes) ⌝ }
+    ensures { λ r. ⌜ r ≡ offsetsAt (now (s .entry)) at ⌝ }
+{
+    let mut i = at;
+    while i < s.len() {
+        if !is_sign(s[i]) {
+            return OffsetsRead::End(i);
+        }
+        let j = i + 1;
+        match digits(s, j, classes) {
+            Decimal::Absent => {
+                i = j;
+            }
+            Decimal::Value(_, next) => {
+                i = next;
+            }
+            Decimal::TooLarge => {
+                return OffsetsRead::TooLarge;
+            }
+        }
+    }
+    OffsetsRead::End(i)
+}
+
+// `\/`, `\?` and `\&`, by the byte after the backslash at `i`.
+fn parse_range_search(i: usize, b: u8) -> AtomRead
+    requires { ⌜ i + 2 < 2 ^ 64 ⌝ }
+    ensures { λ r. ⌜ r ≡ escapedAtom i b ⌝ }
+{
+    match b {
+        0x2F => AtomRead::Found(RangeEndingType::Search(MoveDir1D::Next), i + 2),
+        0x3F => AtomRead::Found(RangeEndingType::Search(MoveDir1D::Previous), i + 2),
+        0x26 => AtomRead::Found(RangeEndingType::SubPatSearch, i + 2),
+        _ => AtomRead::Absent,
+    }
+}
+
+// A mark, by the byte after the `'` at `i`.
+fn parse_range_mark(i: usize, b: u8, classes: &[u8; 256]) -> AtomRead
+    requires { ⌜ i + 2 < 2 ^ 64 ⌝ }
+    requires { ⌜ Classes (now classes) ⌝ }
+    ensures { λ r. ⌜ r ≡ markAtom i b ⌝ }
+{
+    if is_kind(classes, Kind::Mark, b) {
+        AtomRead::Found(RangeEndingType::Mark(b), i + 2)
+    } else {
+        AtomRead::Absent
+    }
+}
+
+// An atom that is no number, by its first byte, at `i`, and the next.
+fn parse_range_sign(i: usize, b: u8, d: u8, classes: &[u8; 256]) -> AtomRead
+    requires { ⌜ i + 2 < 2 ^ 64 ⌝ }
+    requires { ⌜ Classes (now classes) ⌝ }
+    ensures { λ r. ⌜ r ≡ signAtom i b d ⌝ }
+{
+    match b {
+        0x2E => AtomRead::Found(RangeEndingType::Current, i + 1),
+        0x25 => AtomRead::Found(RangeEndingType::All, i + 1),
+        0x24 => AtomRead::Found(RangeEndingType::Last, i + 1),
+        0x5C => parse_range_search(i, d),
+        0x27 => parse_range_mark(i, d, classes),
+        _ => AtomRead::Absent,
+    }
+}
+
+// The atom at `at`, if there is one.
+fn parse_range_atom(s: &[u8], at: usize, classes: &[u8; 256]) -> AtomRead
+    requires { ⌜ Classes (now classes) ⌝ }
+    ensures { λ r. ⌜ r ≡ atomAt (now (s .entry)) at ⌝ }
+{
+    match digits(s, at, classes) {
+        Decimal::Value(n, next) => AtomRead::Found(RangeEndingType::Absolute(n), next),
+        Decimal::TooLarge => AtomRead::TooLarge,
+        Decimal::Absent => {
+            if at < s.len() {
+                parse_range_sign(at, s[at], byte_at(s, at + 1), classes)
+            } else {
+                AtomRead::Absent
+            }
+        }
+    }
+}
+
+fn with_offsets(a: RangeEndingType, i: usize, o: OffsetsRead) -> EndingRead
+    ensures { λ r. ⌜ r ≡ withOffsets a i o ⌝ }
+{
+    match o {
+        OffsetsRead::End(j) => EndingRead::Found(RangeEnding {
+            atom: a,
+            from: i,
+            to: j,
+        }),
+        OffsetsRead::TooLarge => EndingRead::TooLarge,
+    }
+}
+
+// The end of a range at `at`: nothing of the text where there is no atom and no offset.
+fn parse_range_ending(s: &[u8], at: usize, classes: &[u8; 256]) -> EndingRead
+    requires { ⌜ Classes (now classes) ⌝ }
+    ensures { λ r. ⌜ r ≡ endingAt (now (s .entry)) at ⌝ }
+{
+    match parse_range_atom(s, at, classes) {
+        AtomRead::Absent => with_offsets(
+            RangeEndingType::Unspecified,
+            at,
+            parse_range_modifiers(s, at, classes),
+        ),
+        AtomRead::Found(a, j) => with_offsets(a, j, parse_range_modifiers(s, j, classes)),
+        AtomRead::TooLarge => EndingRead::TooLarge,
+    }
+}
+
+fn double(l: RangeEnding, p: RangeSearchInit, r: EndingRead) -> RangeRead
+    ensures { λ x. ⌜ x ≡ doubleOf l p r ⌝ }
+{
+    match r {
+        EndingRead::Found(e) => {
+            let to = e.to;
+            RangeRead::Found(RangeSpec::Double(l, e, p), to)
+        }
+        EndingRead::TooLarge => RangeRead::TooLarge,
+    }
+}
+
+// The range at `at`, if there is one.
+pub fn parse_range(s: &[u8], at: usize, classes: &[u8; 256]) -> RangeRead
+    requires { ⌜ Classes (now classes) ⌝ }
+    ensures { λ r. ⌜ r ≡ rangeAt (now (s .entry)) at ⌝ }
+{
+    let EndingRead::Found(l) = parse_range_ending(s, at, classes) else {
+        return RangeRead::TooLarge;
+    };
+    let to = l.to;
+    let b = byte_at(s, to);
+    if b == 0x2C {
+        return double(
+            l,
+            RangeSearchInit::Cursor,
+            parse_range_ending(s, to + 1, classes),
+        );
+    }
+    if b == 0x3B {
+        return double(
+            l,
+            RangeSearchInit::Start,
+            parse_range_ending(s, to + 1, classes),
+        );
+    }
+    if to == at {
+        RangeRead::Absent
+    } else {
+        RangeRead::Found(RangeSpec::Single(l), to)
+    }
+}
