@@ -3,7 +3,7 @@
 use scan::classes::Kind;
 use scan::part::byte_at;
 use scan::part::part;
-use scan::run::run_end;
+use scan::run::long_run_end;
 use store::put_bytes;
 ghost use mathlib.Core.Path.{_≡_};
 ghost use Rattle.scan.specs.Bytes.{Classes};
@@ -88,9 +88,9 @@ fn own_end(s: &[u8], at: usize, quoted: bool, classes: &[u8; 256]) -> usize
     ensures { λ r. ⌜ r ≡ runAt (own quoted) (now (s .entry)) at ⌝ }
 {
     if quoted {
-        run_end(s, at, classes, Kind::Quoted)
+        long_run_end(s, at, classes, Kind::Quoted)
     } else {
-        run_end(s, at, classes, Kind::Plain)
+        long_run_end(s, at, classes, Kind::Plain)
     }
 }
 

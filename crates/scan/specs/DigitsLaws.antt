@@ -1,7 +1,7 @@
 -- Laws of decimal digits: one digit at a time, for a loop; where they end; what stands behind them.
 -- Assumes nothing.
 use mathlib.Core.Path.{_≡_, refl, _∙_, sym}
-use mathlib.Core.Bool.{Bool, true, false, cond, _&&_, false≢true}
+use mathlib.Core.Bool.{Bool, true, false, cond}
 use mathlib.Core.List.{List, [], _∷_, _++_}
 use Prim.Native.Nat.{ℕ, _+_, _*_, _-_, _^_, _<_, _≤_}
 use native.Mathlib.Omega.{arith}
@@ -11,17 +11,8 @@ use lib.ListN.{length, getD, drop, drop-of-length-le}
 use lib.Seq.{drop-append-le}
 use Rattle.scan.specs.Bytes.{isDigit}
 use Rattle.scan.specs.Scan.{runFrom, runAt, valueFrom, valueAt, digitsFrom, digitsAt}
-use Rattle.scan.specs.RunLaws.{drop-step, run-stop, runAt-le, runAt-within}
+use Rattle.scan.specs.RunLaws.{and-left, and-right, drop-step, run-stop, runAt-le, runAt-within}
 use Rattle.scan.specs.declared.decimal.Decimal.the-variants.{Absent, Value, TooLarge}
-
--- a conjunction of tests
-pub and-left : (a b : Bool) → (a && b) ≡ true → a ≡ true
-and-left true b e = refl
-and-left false b e = e
-
-pub and-right : (a b : Bool) → (a && b) ≡ true → b ≡ true
-and-right true b e = e
-and-right false b e = absurd (false≢true e)
 
 -- the bounds of a digit
 pub record Digital (b : ℕ) : Type 0 where

@@ -6,9 +6,17 @@ use mathlib.Core.List.{List, [], _∷_}
 use lib.Dec.{eqb}
 use lib.ListN.{drop}
 use Rattle.scan.specs.Bytes.{within}
-use Rattle.scan.specs.declared.utf8.Pending.{Pending}
-use Rattle.scan.specs.declared.utf8.Step.{Step}
-use Rattle.scan.specs.declared.utf8.Step.the-variants.{Next, Bad}
+
+-- what must follow in a sequence: how many bytes, and the least and the greatest next byte
+pub record Pending : Type 0 where
+  pub need : ℕ
+  pub low : ℕ
+  pub high : ℕ
+
+-- what must then follow, or that a byte may not stand there
+pub data Step : Type 0 where
+  next : Pending → Step
+  bad : Step
 
 -- how many bytes follow a first byte: UTF8-1 none, UTF8-2 one, UTF8-3 two, UTF8-4 three; 4 for a byte that starts nothing
 unfoldable pub followers : ℕ → ℕ
@@ -26,13 +34,13 @@ highest b = cond (eqb b 0xED) 0x9F (cond (eqb b 0xF4) 0x8F 0xBF)
 unfoldable pub utf8Step : Pending → ℕ → Step
 utf8Step p b =
     cond (eqb (p .need) 0)
-    (cond (eqb (followers b) 4) Bad (Next (record { need = followers b; low = lowest b; high = highest b })))
-    (cond (within (p .low) (p .high) b) (Next (record { need = p .need - 1; low = 0x80; high = 0xBF })) Bad)
+    (cond (eqb (followers b) 4) Step.bad (Step.next (record { need = followers b; low = lowest b; high = highest b })))
+    (cond (within (p .low) (p .high) b) (Step.next (record { need = p .need - 1; low = 0x80; high = 0xBF })) Step.bad)
 
 -- xs is what p leaves of a sequence, and then whole sequences
 unfoldable pub utf8From : Pending → List ℕ → Bool
 utf8From p [] = eqb (p .need) 0
-utf8From p (b ∷ bs) = elim (utf8Step p b) [ Next q ↦ utf8From q bs | Bad ↦ false ]
+utf8From p (b ∷ bs) = elim (utf8Step p b) [ Step.next q ↦ utf8From q bs | Step.bad ↦ false ]
 
 unfoldable pub utf8At : Pending → List ℕ → ℕ → Bool
 utf8At p s i = utf8From p (drop i s)

@@ -3,9 +3,9 @@ use super::classes::Kind;
 use super::classes::is_kind;
 ghost use mathlib.Core.Path.{_≡_};
 ghost use mathlib.Core.Bool.{true};
-ghost use Prim.Native.Nat.{_≤_};
+ghost use Prim.Native.Nat.{_+_, _≤_};
 ghost use lib.ListN.{length};
-ghost use Rattle.scan.specs.Bytes.{Classes, isKind, isSpace, isWord, isText};
+ghost use Rattle.scan.specs.Bytes.{Classes, isKind, isSpace, isWord, isText, isPlain, isQuoted};
 ghost use Rattle.scan.specs.Scan.{runAt};
 
 // The first position from `at` on whose byte is not of the kind, or the end.
@@ -43,23 +43,83 @@ pub fn larger(a: u8, b: u8) -> u8
     if a < b { b } else { a }
 }
 
-fn newline(b: u8) -> u8
-    ensures { λ r. ⌜ (r ≡ 0 → isText b ≡ true) ⌝ }
+// 1 where the bytes are the same, or else 0.
+fn same(a: u8, b: u8) -> u8
+    ensures { λ r. ⌜ (r ≡ 0 → a ≡ b → ⊥) ⌝ }
 {
-    if b == 0x0A { 1 } else { 0 }
+    if a == b { 1 } else { 0 }
 }
 
-// 0 only where no byte is 0x0A. No turn leaves the loop, so it is compiled to vector instructions.
-fn newlines(s: &[u8]) -> u8
-    ensures { λ r. ⌜ (r ≡ 0 → length (now (s .entry)) ≡ runAt isText (now (s .entry)) 0) ⌝ }
+// 0 only where a byte stands for itself in plain text.
+fn not_plain(b: u8) -> u8
+    ensures { λ r. ⌜ (r ≡ 0 → isPlain b ≡ true) ⌝ }
+{
+    let blank = larger(same(b, 0x09), larger(same(b, 0x0A), same(b, 0x20)));
+    let sign = larger(same(b, 0x7C), larger(same(b, 0x22), same(b, 0x5C)));
+    larger(blank, sign)
+}
+
+// 0 only where a byte stands for itself in quoted text.
+fn not_quoted(b: u8) -> u8
+    ensures { λ r. ⌜ (r ≡ 0 → isQuoted b ≡ true) ⌝ }
+{
+    let blank = larger(same(b, 0x09), same(b, 0x0A));
+    larger(blank, larger(same(b, 0x5C), same(b, 0x22)))
+}
+
+// 0 only where a byte is of the kind, for the kinds that long runs are made of; by comparisons, which vector instructions have.
+fn foreign(k: Kind, b: u8) -> u8
+    ensures { λ r. ⌜ (r ≡ 0 → isKind k b ≡ true) ⌝ }
+{
+    match k {
+        Kind::Text => same(b, 0x0A),
+        Kind::Plain => not_plain(b),
+        Kind::Quoted => not_quoted(b),
+        Kind::Space => 1,
+        Kind::Colon => 1,
+        Kind::Digit => 1,
+        Kind::Word => 1,
+        Kind::Mark => 1,
+    }
+}
+
+// How many bytes a block has.
+const BLOCK: usize = 32;
+
+// 0 only where all bytes of the block at `at` are of the kind. No turn leaves the loop, so it is compiled to vector instructions.
+fn block(s: &[u8], at: usize, k: Kind) -> u8
+    requires { ⌜ at + 32 ≤ length (now s) ⌝ }
+    ensures { λ r. ⌜ (r ≡ 0 → runAt (isKind k) (now (s .entry)) at ≡ runAt (isKind k) (now (s .entry)) (at + 32)) ⌝ }
 {
     let mut m: u8 = 0;
-    let mut i = 0;
-    while i < s.len() {
-        m = larger(m, newline(s[i]));
+    let mut i: usize = 0;
+    while i < BLOCK {
+        m = larger(m, foreign(k, s[at + i]));
         i += 1;
     }
     m
+}
+
+// Past the blocks from `at` on that are of the kind throughout.
+fn blocks_end(s: &[u8], at: usize, k: Kind) -> usize
+    ensures { λ r. ⌜ runAt (isKind k) (now (s .entry)) at ≡ runAt (isKind k) (now (s .entry)) r ⌝ }
+{
+    let mut i = at;
+    while i < s.len() && BLOCK <= s.len() - i {
+        if block(s, i, k) != 0 {
+            return i;
+        }
+        i += BLOCK;
+    }
+    i
+}
+
+// The same as `run_end`, for a run that may be long.
+pub fn long_run_end(s: &[u8], at: usize, classes: &[u8; 256], k: Kind) -> usize
+    requires { ⌜ Classes (now classes) ⌝ }
+    ensures { λ r. ⌜ r ≡ runAt (isKind k) (now (s .entry)) at ⌝ }
+{
+    run_end(s, blocks_end(s, at, k), classes, k)
 }
 
 // The position of the first 0x0A, or the end.
@@ -67,8 +127,5 @@ pub fn text_stop(s: &[u8], classes: &[u8; 256]) -> usize
     requires { ⌜ Classes (now classes) ⌝ }
     ensures { λ r. ⌜ r ≡ runAt isText (now (s .entry)) 0 ⌝ }
 {
-    if newlines(s) == 0 {
-        return s.len();
-    }
-    run_end(s, 0, classes, Kind::Text)
+    long_run_end(s, 0, classes, Kind::Text)
 }

@@ -1,22 +1,14 @@
-// UTF-8 by RFC 3629: ASCII first, by vector instructions, then one byte after the other.
+// UTF-8 by RFC 3629: ASCII first, by vector instructions, then one sequence after the other.
+use super::part::byte_at;
 use super::run::larger;
 ghost use mathlib.Core.Path.{_≡_};
 ghost use mathlib.Core.Bool.{true};
-ghost use Prim.Native.Nat.{_<_};
+ghost use Prim.Native.Nat.{_≤_, _<_};
 ghost use Rattle.scan.specs.Bytes.{within as withinOf};
+ghost use lib.ListN.{length};
+ghost use Rattle.scan.specs.Scan.{byteAt};
 ghost use Rattle.scan.specs.Utf8 as utf8s;
-
-// What must follow in a UTF-8 sequence: how many bytes, and the least and the greatest next byte.
-pub struct Pending {
-    pub need: u8,
-    pub low: u8,
-    pub high: u8,
-}
-
-pub enum Step {
-    Next(Pending),
-    Bad,
-}
+ghost use Rattle.scan.specs.Utf8Laws.{Sequence};
 
 fn within(lo: u8, hi: u8, b: u8) -> bool
     ensures { λ r. ⌜ r ≡ withinOf lo hi b ⌝ }
@@ -66,29 +58,48 @@ fn highest(b: u8) -> u8
     0xBF
 }
 
-fn utf8_step(p: Pending, b: u8) -> Step
-    ensures { λ r. ⌜ r ≡ utf8s.utf8Step p b ⌝ }
+// A sequence of one character at a position: where the next one starts, or that it is none.
+pub enum SequenceRead {
+    Next(usize),
+    Bad,
+}
+
+// The byte at `i` is one that may follow.
+fn follows(s: &[u8], i: usize, low: u8, high: u8) -> bool
+    ensures { λ r. ⌜ r ≡ withinOf low high (byteAt (now (s .entry)) i) ⌝ }
 {
-    let need = p.need;
-    if need == 0 {
-        let n = followers(b);
-        if n == 4 {
-            return Step::Bad;
-        }
-        return Step::Next(Pending {
-            need: n,
-            low: lowest(b),
-            high: highest(b),
-        });
+    within(low, high, byte_at(s, i))
+}
+
+// The sequence at `i`, by its first byte and those that must follow it.
+fn sequence(s: &[u8], i: usize) -> SequenceRead
+    requires { ⌜ i < length (now s) ⌝ }
+    ensures { λ r. ⌜ Sequence (now (s .entry)) i r ⌝ }
+{
+    let b = s[i];
+    let n = followers(b);
+    if n == 0 {
+        return SequenceRead::Next(i + 1);
     }
-    if within(p.low, p.high, b) {
-        return Step::Next(Pending {
-            need: need - 1,
-            low: 0x80,
-            high: 0xBF,
-        });
+    if n == 4 {
+        return SequenceRead::Bad;
     }
-    Step::Bad
+    if !follows(s, i + 1, lowest(b), highest(b)) {
+        return SequenceRead::Bad;
+    }
+    if n == 1 {
+        return SequenceRead::Next(i + 2);
+    }
+    if !follows(s, i + 2, 0x80, 0xBF) {
+        return SequenceRead::Bad;
+    }
+    if n == 2 {
+        return SequenceRead::Next(i + 3);
+    }
+    if !follows(s, i + 3, 0x80, 0xBF) {
+        return SequenceRead::Bad;
+    }
+    SequenceRead::Next(i + 4)
 }
 
 // The greatest byte. No turn leaves the loop, so it is compiled to vector instructions.
@@ -104,11 +115,12 @@ fn greatest(s: &[u8]) -> u8
     m
 }
 
-// The first byte that is not ASCII, or the end: the text is judged from there as from its start.
-fn ascii_end(s: &[u8]) -> usize
-    ensures { λ r. ⌜ utf8s.isUtf8 (now (s .entry)) ≡ utf8s.utf8At utf8s.whole (now (s .entry)) r ⌝ }
+// The first byte from `at` on that is not ASCII, or the end: the text is judged from there as from `at`.
+fn ascii_end(s: &[u8], at: usize) -> usize
+    ensures same { λ r. ⌜ utf8s.utf8At utf8s.whole (now (s .entry)) at ≡ utf8s.utf8At utf8s.whole (now (s .entry)) r ⌝ }
+    ensures later { λ r. ⌜ at ≤ r ⌝ }
 {
-    let mut i = 0;
+    let mut i = at;
     while i < s.len() {
         if 0x80 <= s[i] {
             return i;
@@ -125,22 +137,12 @@ pub fn is_utf8(s: &[u8]) -> bool
     if greatest(s) < 0x80 {
         return true;
     }
-    let mut p = Pending {
-        need: 0,
-        low: 0x80,
-        high: 0xBF,
-    };
-    let mut i = ascii_end(s);
+    let mut i = ascii_end(s, 0);
     while i < s.len() {
-        match utf8_step(p, s[i]) {
-            Step::Next(q) => {
-                p = q;
-            }
-            Step::Bad => {
-                return false;
-            }
-        }
-        i += 1;
+        let SequenceRead::Next(j) = sequence(s, i) else {
+            return false;
+        };
+        i = ascii_end(s, j);
     }
-    p.need == 0
+    true
 }

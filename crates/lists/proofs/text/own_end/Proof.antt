@@ -6,19 +6,19 @@ use borrow.Author.Needs.{needs}
 use Rattle.lists.proofs.text.own_end.Statement.{statement}
 use Rattle.lists.proofs.text.own_end.Tie as tie
 
-run-end-requires : tie.Need-run-end-requires
-run-end-requires c κs = search needs
+long-run-end-requires : tie.Need-long-run-end-requires
+long-run-end-requires c κs = search needs
 
-run-end-requires-2 : tie.Need-run-end-requires-2
-run-end-requires-2 c κs = search needs
+long-run-end-requires-2 : tie.Need-long-run-end-requires-2
+long-run-end-requires-2 c κs = search needs
 
 returns : tie.Need-returns
 unfolding own isKind
-returns c = rw (c .before .if1 .taken) (c .run-end .ensures)
+returns c = rw (c .before .if1 .taken) (c .long-run-end .ensures)
 
 returns-2 : tie.Need-returns-2
 unfolding own isKind
-returns-2 c = rw (c .before .if1 .left) (c .run-end2 .ensures)
+returns-2 c = rw (c .before .if1 .left) (c .long-run-end2 .ensures)
 
 pub own-end-spec : {M : Type 1} → statement M
-own-end-spec = tie.close (tie.spec run-end-requires run-end-requires-2 returns returns-2)
+own-end-spec = tie.close (tie.spec long-run-end-requires long-run-end-requires-2 returns returns-2)

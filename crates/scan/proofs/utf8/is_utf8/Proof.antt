@@ -1,19 +1,20 @@
--- `utf8::is_utf8` meets its contract. The invariant: what is left of the text is judged from the state p as the whole is from the first.
+-- `utf8::is_utf8` meets its contract. The invariant: the text is judged from i as from its start.
 -- Assumes nothing.
 use mathlib.Core.Path.{_≡_, _∙_, sym}
 use Prim.Native.Nat.{_-_}
+use native.Mathlib.Omega.{arith}
 use lib.ListN.{length}
-use Rattle.scan.specs.Utf8.{isUtf8, utf8At}
-use Rattle.scan.specs.Utf8Laws.{utf8-next, utf8-bad, utf8-end}
+use Rattle.scan.specs.Utf8.{isUtf8, utf8At, whole}
+use Rattle.scan.specs.Utf8Laws.{utf8-end}
 use borrow.Author.Needs.{needs}
 use Rattle.scan.proofs.utf8.is_utf8.Statement.{statement}
 use Rattle.scan.proofs.utf8.is_utf8.Tie as tie
 
 abbrev Inv-loop : tie.InvT-loop
-Inv-loop s p₀ i₀ p i = isUtf8 s ≡ utf8At p s i
+Inv-loop s i₀ i = isUtf8 s ≡ utf8At whole s i
 
 abbrev μ-loop : tie.MeasureT-loop
-μ-loop s p₀ i₀ p i = length s - i
+μ-loop s i₀ i = length s - i
 
 greatest-requires : tie.Need-greatest-requires Inv-loop μ-loop
 greatest-requires c κs = search needs
@@ -25,38 +26,32 @@ ascii-end-requires : tie.Need-ascii-end-requires Inv-loop μ-loop
 ascii-end-requires c κs = search needs
 
 loop-holds : tie.Need-loop-holds Inv-loop μ-loop
-loop-holds c = c .ascii-end .ensures
+unfolding isUtf8
+loop-holds c = c .ascii-end .ensures .0
 
-shared-slice-read-utf8-step : tie.Need-shared-slice-read-utf8-step Inv-loop μ-loop
-shared-slice-read-utf8-step c = search needs
+sequence-requires : tie.Need-sequence-requires Inv-loop μ-loop
+sequence-requires c κs = search needs
 
-utf8-step-requires : tie.Need-utf8-step-requires Inv-loop μ-loop
-utf8-step-requires c κs = search needs
-
-enum-known-q : tie.Need-enum-known-q Inv-loop μ-loop
-enum-known-q c = search needs
+enum-known-j : tie.Need-enum-known-j Inv-loop μ-loop
+enum-known-j c = search needs
 
 enum-told : tie.Need-enum-told Inv-loop μ-loop
 enum-told c = search needs
 
 returns-2 : tie.Need-returns-2 Inv-loop μ-loop
-returns-2 c =
-    let l = c .before .before .before .before .before .loop in
-    sym (l .inv ∙ utf8-bad _ _ _ (search needs) (sym (c .before .before .utf8-step .ensures) ∙ c .enum-told .given .1))
+returns-2 c = sym (c .before .before .before .before .loop .inv ∙ rw (c .enum-told .given .1) at (c .before .before .sequence .ensures))
 
-add-i : tie.Need-add-i Inv-loop μ-loop
-add-i c = search needs
+ascii-end-requires-2 : tie.Need-ascii-end-requires-2 Inv-loop μ-loop
+ascii-end-requires-2 c κs = search needs
 
 loop-less : tie.Need-loop-less Inv-loop μ-loop
-loop-less c = search needs
+loop-less c = let e = rw (c .before .before .j .given .1) at (c .before .before .before .before .sequence .ensures) in omega (arith, e .1, c .ascii-end2 .ensures .1)
 
 loop-again : tie.Need-loop-again Inv-loop μ-loop
-loop-again c =
-    let l = c .before .before .before .before .before .before .loop in
-    l .inv ∙ utf8-next _ _ _ _ (search needs) (sym (c .before .before .before .utf8-step .ensures) ∙ c .before .q .given .1)
+loop-again c = let e = rw (c .before .before .j .given .1) at (c .before .before .before .before .sequence .ensures) in c .before .before .before .before .before .before .loop .inv ∙ e .0 ∙ c .ascii-end2 .ensures .0
 
 returns-3 : tie.Need-returns-3 Inv-loop μ-loop
-returns-3 c = sym (c .before .before .loop .inv ∙ utf8-end _ _ _ (search needs))
+returns-3 c = sym (c .before .loop .inv ∙ utf8-end _ _ _ (search needs))
 
 pub is-utf8-spec : {M : Type 1} → statement M
 is-utf8-spec =
@@ -68,12 +63,11 @@ is-utf8-spec =
     returns
     ascii-end-requires
     loop-holds
-    shared-slice-read-utf8-step
-    utf8-step-requires
-    enum-known-q
+    sequence-requires
+    enum-known-j
     enum-told
     returns-2
-    add-i
+    ascii-end-requires-2
     loop-less
     loop-again
     returns-3)

@@ -1,0 +1,70 @@
+-- `run::not_plain` meets its contract.
+-- Assumes nothing.
+use native.Mathlib.Omega.{arith}
+use borrow.Author.Tests.{ne-eqb}
+use Rattle.scan.specs.Bytes.{isPlain}
+use borrow.Author.Needs.{needs}
+use Rattle.scan.proofs.run.not_plain.Statement.{statement}
+use Rattle.scan.proofs.run.not_plain.Tie as tie
+
+same-requires : tie.Need-same-requires
+same-requires c κs = search needs
+
+same-requires-2 : tie.Need-same-requires-2
+same-requires-2 c κs = search needs
+
+same-requires-3 : tie.Need-same-requires-3
+same-requires-3 c κs = search needs
+
+larger-requires : tie.Need-larger-requires
+larger-requires c κs = search needs
+
+larger-requires-2 : tie.Need-larger-requires-2
+larger-requires-2 c κs = search needs
+
+same-requires-4 : tie.Need-same-requires-4
+same-requires-4 c κs = search needs
+
+same-requires-5 : tie.Need-same-requires-5
+same-requires-5 c κs = search needs
+
+same-requires-6 : tie.Need-same-requires-6
+same-requires-6 c κs = search needs
+
+larger-requires-3 : tie.Need-larger-requires-3
+larger-requires-3 c κs = search needs
+
+larger-requires-4 : tie.Need-larger-requires-4
+larger-requires-4 c κs = search needs
+
+larger-requires-5 : tie.Need-larger-requires-5
+larger-requires-5 c κs = search needs
+
+returns : tie.Need-returns
+unfolding isPlain
+returns c = λ h.
+    rw (
+      ne-eqb _ _ (c .before .before .before .before .before .before .before .before .before .before .same .ensures (omega (arith, h, c .larger5 .ensures .0, c .larger5 .ensures .1, c .before .larger4 .ensures .0, c .before .larger4 .ensures .1, c .before .before .larger3 .ensures .0, c .before .before .larger3 .ensures .1, c .before .before .before .before .before .before .larger2 .ensures .0, c .before .before .before .before .before .before .larger2 .ensures .1, c .before .before .before .before .before .before .before .larger .ensures .0, c .before .before .before .before .before .before .before .larger .ensures .1))),
+      ne-eqb _ _ (c .before .before .before .before .before .before .before .before .before .same2 .ensures (omega (arith, h, c .larger5 .ensures .0, c .larger5 .ensures .1, c .before .larger4 .ensures .0, c .before .larger4 .ensures .1, c .before .before .larger3 .ensures .0, c .before .before .larger3 .ensures .1, c .before .before .before .before .before .before .larger2 .ensures .0, c .before .before .before .before .before .before .larger2 .ensures .1, c .before .before .before .before .before .before .before .larger .ensures .0, c .before .before .before .before .before .before .before .larger .ensures .1))),
+      ne-eqb _ _ (c .before .before .before .before .before .before .before .before .same3 .ensures (omega (arith, h, c .larger5 .ensures .0, c .larger5 .ensures .1, c .before .larger4 .ensures .0, c .before .larger4 .ensures .1, c .before .before .larger3 .ensures .0, c .before .before .larger3 .ensures .1, c .before .before .before .before .before .before .larger2 .ensures .0, c .before .before .before .before .before .before .larger2 .ensures .1, c .before .before .before .before .before .before .before .larger .ensures .0, c .before .before .before .before .before .before .before .larger .ensures .1))),
+      ne-eqb _ _ (c .before .before .before .before .before .same4 .ensures (omega (arith, h, c .larger5 .ensures .0, c .larger5 .ensures .1, c .before .larger4 .ensures .0, c .before .larger4 .ensures .1, c .before .before .larger3 .ensures .0, c .before .before .larger3 .ensures .1, c .before .before .before .before .before .before .larger2 .ensures .0, c .before .before .before .before .before .before .larger2 .ensures .1, c .before .before .before .before .before .before .before .larger .ensures .0, c .before .before .before .before .before .before .before .larger .ensures .1))),
+      ne-eqb _ _ (c .before .before .before .before .same5 .ensures (omega (arith, h, c .larger5 .ensures .0, c .larger5 .ensures .1, c .before .larger4 .ensures .0, c .before .larger4 .ensures .1, c .before .before .larger3 .ensures .0, c .before .before .larger3 .ensures .1, c .before .before .before .before .before .before .larger2 .ensures .0, c .before .before .before .before .before .before .larger2 .ensures .1, c .before .before .before .before .before .before .before .larger .ensures .0, c .before .before .before .before .before .before .before .larger .ensures .1))),
+      ne-eqb _ _ (c .before .before .before .same6 .ensures (omega (arith, h, c .larger5 .ensures .0, c .larger5 .ensures .1, c .before .larger4 .ensures .0, c .before .larger4 .ensures .1, c .before .before .larger3 .ensures .0, c .before .before .larger3 .ensures .1, c .before .before .before .before .before .before .larger2 .ensures .0, c .before .before .before .before .before .before .larger2 .ensures .1, c .before .before .before .before .before .before .before .larger .ensures .0, c .before .before .before .before .before .before .before .larger .ensures .1))),
+    )
+
+pub not-plain-spec : {M : Type 1} → statement M
+not-plain-spec =
+    tie.close
+    (tie.spec
+    same-requires
+    same-requires-2
+    same-requires-3
+    larger-requires
+    larger-requires-2
+    same-requires-4
+    same-requires-5
+    same-requires-6
+    larger-requires-3
+    larger-requires-4
+    larger-requires-5
+    returns)
