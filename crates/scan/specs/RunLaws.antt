@@ -10,6 +10,7 @@ use native.Mathlib.Decide.{decLt}
 use lib.ListN.{length, getD, take, drop, drop-of-length-le, length-drop, List·getD-eq-default}
 use lib.Seq.{drop-cons, getD-drop, drop-append-le}
 use Rattle.scan.specs.Scan.{runFrom, runAt}
+use Rattle.scan.specs.declared.run.RunStart.{RunStart}
 
 -- a conjunction of tests
 pub and-left : (a b : Bool) → (a && b) ≡ true → a ≡ true
@@ -58,6 +59,11 @@ module _ (p : ℕ → Bool) where
   pub runAt-end : (s : List ℕ) (i : ℕ) → length s ≤ i → runAt p s i ≡ i
   unfolding runAt runFrom
   runAt-end s i h = rw (drop-of-length-le s h)
+
+-- the first bytes of a run: it ends among them, or from behind them it ends where it does from its start
+abbrev pub Probed : (ℕ → Bool) → List ℕ → ℕ → RunStart → Type 0
+Probed p s i (RunStart.Ends j) = j ≡ runAt p s i
+Probed p s i (RunStart.GoesOn j) = runAt p s i ≡ runAt p s j
 
 -- bounds ------------------------------------------------------------------------------------------------------------------
 

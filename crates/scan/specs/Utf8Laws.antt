@@ -94,6 +94,23 @@ followers-none b h = go (within 0x00 0x7F b) (within 0xC2 0xDF b) (within 0xE0 0
     go false false false true q k = absurd (omega arith)
     go false false false false q k = absurd (omega arith)
 
+-- the first of two bytes
+record PairFirst (b : ℕ) : Type 0 where
+  count : followers b ≡ 1
+  least : lowest b ≡ 0x80
+  most : highest b ≡ 0xBF
+
+pair-first : (b : ℕ) → within 0xC2 0xDF b ≡ true → PairFirst b
+unfolding followers lowest highest
+pair-first b w =
+    let l = leb-true 0xC2 b (and-left (leb 0xC2 b) (leb b 0xDF) w) in
+    let h = leb-true b 0xDF (and-right (leb 0xC2 b) (leb b 0xDF) w) in
+    record {
+      count = rw (le-leb 0 b (omega arith), lt-leb b 0x7F (omega arith), w);
+      least = rw (ne-eqb b 0xE0 (λ z. omega arith), ne-eqb b 0xF0 (λ z. omega arith));
+      most = rw (ne-eqb b 0xED (λ z. omega arith), ne-eqb b 0xF4 (λ z. omega arith));
+    }
+
 -- a byte that may follow, and one that may not
 module _ (k low high : ℕ) (s : List ℕ) (i : ℕ) where
   needed : eqb (suc k) 0 ≡ false
@@ -150,6 +167,14 @@ module _ (s : List ℕ) (i : ℕ) (h : i < length s) where
 module _ (s : List ℕ) (i : ℕ) (h : i < length s) where
   pub sequence-two : (e : followers (byteAt s i) ≡ 1) → within (lowest (byteAt s i)) (highest (byteAt s i)) (byteAt s (i + 1)) ≡ true → Sequence s i (SequenceRead.Next (i + 2))
   sequence-two e w = let q = second-in s i h 0 e (omega arith) w in (second s i h 0 e (omega arith) w, omega arith, omega arith)
+
+  -- two bytes, by the range of the first
+  module _ (c : within 0xC2 0xDF (byteAt s i) ≡ true) where
+    pub pair-off : within 0x80 0xBF (byteAt s (i + 1)) ≡ false → Sequence s i SequenceRead.Bad
+    pair-off w = let q = pair-first (byteAt s i) c in second-off s i h 0 (q .count) (omega arith) (rw (q .least, q .most) w)
+
+    pub pair-on : within 0x80 0xBF (byteAt s (i + 1)) ≡ true → Sequence s i (SequenceRead.Next (i + 2))
+    pair-on w = let q = pair-first (byteAt s i) c in sequence-two (q .count) (rw (q .least, q .most) w)
 
   module _ (n : ℕ) (e : followers (byteAt s i) ≡ suc (suc n)) (few : suc (suc n) < 4)
       (w : within (lowest (byteAt s i)) (highest (byteAt s i)) (byteAt s (i + 1)) ≡ true) where

@@ -7,6 +7,7 @@ ghost use Prim.Native.Nat.{_+_, _≤_};
 ghost use lib.ListN.{length};
 ghost use Rattle.scan.specs.Bytes.{Classes, isKind, isSpace, isWord, isText, isPlain, isQuoted};
 ghost use Rattle.scan.specs.Scan.{runAt};
+ghost use Rattle.scan.specs.RunLaws.{Probed};
 
 // The first position from `at` on whose byte is not of the kind, or the end.
 pub fn run_end(s: &[u8], at: usize, classes: &[u8; 256], k: Kind) -> usize
@@ -67,14 +68,14 @@ fn not_quoted(b: u8) -> u8
     larger(blank, larger(same(b, 0x5C), same(b, 0x22)))
 }
 
-// 0 only where a byte is of the kind, for the kinds that long runs are made of; by comparisons, which vector instructions have.
+// 0 only where a byte is of the kind, for the kinds whose runs may be long; by comparisons, which vector instructions have.
 fn foreign(k: Kind, b: u8) -> u8
     ensures { λ r. ⌜ (r ≡ 0 → isKind k b ≡ true) ⌝ }
 {
     match k {
-        Kind::Text => same(b, 0x0A),
         Kind::Plain => not_plain(b),
         Kind::Quoted => not_quoted(b),
+        Kind::Text => 1,
         Kind::Space => 1,
         Kind::Colon => 1,
         Kind::Digit => 1,
@@ -85,6 +86,9 @@ fn foreign(k: Kind, b: u8) -> u8
 
 // How many bytes a block has.
 const BLOCK: usize = 32;
+
+// How many bytes of a run are tested one by one before blocks are.
+const FIRST: usize = 16;
 
 // 0 only where all bytes of the block at `at` are of the kind. No turn leaves the loop, so it is compiled to vector instructions.
 fn block(s: &[u8], at: usize, k: Kind) -> u8
@@ -114,18 +118,68 @@ fn blocks_end(s: &[u8], at: usize, k: Kind) -> usize
     i
 }
 
-// The same as `run_end`, for a run that may be long.
+// A run's first bytes: it ends among them, or it goes on behind them.
+pub enum RunStart {
+    Ends(usize),
+    GoesOn(usize),
+}
+
+// The first bytes of a run, one by one.
+fn probe(s: &[u8], at: usize, classes: &[u8; 256], k: Kind) -> RunStart
+    requires { ⌜ Classes (now classes) ⌝ }
+    ensures { λ r. ⌜ Probed (isKind k) (now (s .entry)) at r ⌝ }
+{
+    let mut i = at;
+    let mut left = FIRST;
+    while i < s.len() {
+        if !is_kind(classes, k, s[i]) {
+            return RunStart::Ends(i);
+        }
+        if left == 0 {
+            return RunStart::GoesOn(i);
+        }
+        left -= 1;
+        i += 1;
+    }
+    RunStart::Ends(i)
+}
+
+// The same as `run_end`, for a run that may be long: its first bytes one by one, then by blocks.
 pub fn long_run_end(s: &[u8], at: usize, classes: &[u8; 256], k: Kind) -> usize
     requires { ⌜ Classes (now classes) ⌝ }
     ensures { λ r. ⌜ r ≡ runAt (isKind k) (now (s .entry)) at ⌝ }
 {
-    run_end(s, blocks_end(s, at, k), classes, k)
+    match probe(s, at, classes, k) {
+        RunStart::Ends(i) => i,
+        RunStart::GoesOn(i) => run_end(s, blocks_end(s, i, k), classes, k),
+    }
 }
 
-// The position of the first 0x0A, or the end.
+// 0 only where no byte before `end` is 0x0A. No turn leaves the loop, so it is compiled to vector instructions.
+fn newlines(s: &[u8], end: usize) -> u8
+    requires { ⌜ end ≤ length (now s) ⌝ }
+    ensures { λ r. ⌜ (r ≡ 0 → runAt isText (now (s .entry)) 0 ≡ runAt isText (now (s .entry)) end) ⌝ }
+{
+    let mut m: u8 = 0;
+    let mut i = 0;
+    while i < end {
+        m = larger(m, same(s[i], 0x0A));
+        i += 1;
+    }
+    m
+}
+
+// The position of the first 0x0A, or the end. One at the very end is found as fast as none.
 pub fn text_stop(s: &[u8], classes: &[u8; 256]) -> usize
     requires { ⌜ Classes (now classes) ⌝ }
     ensures { λ r. ⌜ r ≡ runAt isText (now (s .entry)) 0 ⌝ }
 {
-    long_run_end(s, 0, classes, Kind::Text)
+    if s.len() == 0 {
+        return 0;
+    }
+    let last = s.len() - 1;
+    if newlines(s, last) == 0 {
+        return run_end(s, last, classes, Kind::Text);
+    }
+    run_end(s, 0, classes, Kind::Text)
 }

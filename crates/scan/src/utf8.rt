@@ -72,7 +72,7 @@ fn follows(s: &[u8], i: usize, low: u8, high: u8) -> bool
 }
 
 // The sequence at `i`, by its first byte and those that must follow it.
-fn sequence(s: &[u8], i: usize) -> SequenceRead
+fn any_sequence(s: &[u8], i: usize) -> SequenceRead
     requires { ⌜ i < length (now s) ⌝ }
     ensures { λ r. ⌜ Sequence (now (s .entry)) i r ⌝ }
 {
@@ -100,6 +100,20 @@ fn sequence(s: &[u8], i: usize) -> SequenceRead
         return SequenceRead::Bad;
     }
     SequenceRead::Next(i + 4)
+}
+
+// The same, with the commonest, of two bytes, first.
+fn sequence(s: &[u8], i: usize) -> SequenceRead
+    requires { ⌜ i < length (now s) ⌝ }
+    ensures { λ r. ⌜ Sequence (now (s .entry)) i r ⌝ }
+{
+    if within(0xC2, 0xDF, s[i]) {
+        if follows(s, i + 1, 0x80, 0xBF) {
+            return SequenceRead::Next(i + 2);
+        }
+        return SequenceRead::Bad;
+    }
+    any_sequence(s, i)
 }
 
 // The greatest byte. No turn leaves the loop, so it is compiled to vector instructions.
