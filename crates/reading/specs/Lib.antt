@@ -3,3 +3,4 @@ pub mod Alone
 pub mod LineLaws
 pub mod Behind
 pub mod Checks
+pub mod Samples

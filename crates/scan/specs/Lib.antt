@@ -5,3 +5,4 @@ pub mod RunLaws
 pub mod DigitsLaws
 pub mod Utf8Laws
 pub mod PartLaws
+pub mod Ascii
