@@ -48,3 +48,14 @@ for name, which, text in KINDS:
         assert answer not in (b'', b'0\n'), (name, answer)
         counts.append(all_ - own)
     print(f'| {name} | {(counts[1] - counts[0]) / (len(long) - len(short)):.1f} | {counts[1]:,} |')
+
+# One reading of a short line, in all: what a line costs before its command is looked up.
+LINES = [b'q', b':+5-3close', b'vert 3sp a\\ b', b'vert tab hor vert sp abcdefghijkl']
+
+print()
+print('| line, its first reading | instructions |')
+print('|---|---|')
+for line in LINES:
+    own, _ = instructions('0', line)
+    all_, _ = instructions('l', line)
+    print(f'| `{line.decode()}` | {all_ - own:,} |')
