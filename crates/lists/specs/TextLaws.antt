@@ -8,11 +8,11 @@ use native.Mathlib.Omega.{arith}
 use native.Mathlib.Decide.{decLt}
 use borrow.Author.Tests.{ne-eqb}
 use lib.Dec.{eqb}
-use lib.ListN.{length, getD, take, drop, drop-of-length-le, length-drop, List·getD-eq-default}
-use lib.Seq.{take-suc, getD-drop}
+use lib.ListN.{length, getD, take, drop, drop-of-length-le, length-drop, length-take, length-append, List·getD-eq-default}
+use lib.Seq.{take-suc, getD-drop, length-take-le}
 use Rattle.scan.specs.Bytes.{isPlain, isQuoted}
 use Rattle.scan.specs.Scan.{byteAt, partOf, runAt}
-use Rattle.scan.specs.RunLaws.{drop-step, byte-inside, run-carry, runAt-ends}
+use Rattle.scan.specs.RunLaws.{runAt-end, runAt-within, drop-step, byte-inside, run-carry, runAt-ends}
 use Rattle.lists.specs.Text.{quotedEscape, plainEscape, escapeOf, own, stopAt, textEndFrom, textEndAt, bytesFrom, bytesAt}
 use Rattle.lists.specs.declared.text.Escape.{Escape}
 use Rattle.lists.specs.declared.text.TextEnd.{TextEnd}
@@ -71,6 +71,18 @@ module _ (q : Bool) (s : List ℕ) where
           ∙ ap (λ (r : List ℕ). r ++ bytesAt q s (k + 1))
           (ap (λ (b : ℕ). partOf s i k ++ b ∷ []) (sym (getD-drop i s (k - i) 0 ∙ ap (byteAt s) e))
           ∙ sym (ap (λ (n : ℕ). take n (drop i s)) d ∙ take-suc (drop i s) (k - i) 0 (omega (arith, length-drop i s))))
+
+  -- a run counts for the bytes that it passes
+  pub run-length : (i : ℕ) → length (partOf s i (runAt (own q) s i)) ≡ runAt (own q) s i - i
+  run-length i = go (decLt (length s) i)
+    where
+      go : Dec (length s < i) → length (partOf s i (runAt (own q) s i)) ≡ runAt (own q) s i - i
+      go (yes k) = omega (arith, length-take (runAt (own q) s i - i) (drop i s), length-drop i s, runAt-end (own q) s i (omega arith))
+      go (no k) = omega (arith, length-take-le (runAt (own q) s i - i) (drop i s) (omega (arith, length-drop i s, runAt-within (own q) s i (omega arith))))
+
+  pub bytes-count : (i : ℕ) → length (bytesAt q s i) ≡ runAt (own q) s i - i + length (bytesAt q s (runAt (own q) s i))
+  bytes-count i =
+      omega (arith, ap length (bytes-run i), length-append (partOf s i (runAt (own q) s i)) (bytesAt q s (runAt (own q) s i)), run-length i)
 
   -- where a run ended -------------------------------------------------------------------------------------------------------------
 

@@ -5,12 +5,15 @@ use super::text::TextEnd;
 use super::text::copy_text;
 use super::text::item_text;
 use super::text::text_end;
+use super::text::text_size;
 use scan::part::byte_at;
 use scan::run::skip_spaces;
+use store::put_number;
 ghost use mathlib.Core.Path.{_≡_};
 ghost use mathlib.Core.Bool.{false, _&&_, _||_};
 ghost use Prim.Native.Nat.{_+_, _^_, _<_};
 ghost use Rattle.scan.specs.Bytes.{Classes};
+ghost use Rattle.store.specs.Sevens.{named};
 ghost use Rattle.store.specs.Splice.{Put, Room};
 ghost use Rattle.lists.specs.Lists.{itemOf as itemFrom, itemAt, textAt, itemsAt, keyless as keylessText};
 ghost use Rattle.lists.specs.Listed.{roomFor, passing, listFrom, listOf};
@@ -75,6 +78,18 @@ pub fn copy_item(s: &[u8], at: usize, classes: &[u8; 256], store: &mut [u8], to:
 {
     let t = item_text(s, at);
     copy_text(s, t.from, t.quoted, classes, store, to)
+}
+
+// Writes the item at `at` as a name: how many bytes it stands for, and these.
+pub fn put_item(s: &[u8], at: usize, classes: &[u8; 256], store: &mut [u8], to: usize) -> usize
+    requires { ⌜ Classes (now classes) ⌝ }
+    requires { ⌜ Room (now store) to (named (textAt (now s) at)) ⌝ }
+    ensures { λ r. ⌜ Put (now (store .entry)) (now (store .exit)) to r (named (textAt (now (s .entry)) at)) ⌝ }
+{
+    let t = item_text(s, at);
+    let n = text_size(s, t.from, t.quoted, classes);
+    let i = put_number(store, to, n as u64);
+    copy_text(s, t.from, t.quoted, classes, store, i)
 }
 
 // One more item is passed: it is the one asked for, or one of those before it, or one behind it.

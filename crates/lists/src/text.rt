@@ -6,6 +6,7 @@ use scan::part::part;
 use scan::run::long_run_end;
 use store::put_bytes;
 ghost use mathlib.Core.Path.{_≡_};
+ghost use lib.ListN.{length};
 ghost use Rattle.scan.specs.Bytes.{Classes};
 ghost use Rattle.scan.specs.Scan.{runAt};
 ghost use Rattle.store.specs.Splice.{Put, Room};
@@ -121,6 +122,27 @@ pub fn text_end(s: &[u8], at: usize, quoted: bool, classes: &[u8; 256]) -> TextE
         let Escape::Byte(_) = escape_of(quoted, byte_at(s, j + 1)) else {
             return TextEnd::Bad;
         };
+        i = j + 2;
+    }
+}
+
+// How many bytes the text at `at` stands for.
+pub fn text_size(s: &[u8], at: usize, quoted: bool, classes: &[u8; 256]) -> usize
+    requires { ⌜ Classes (now classes) ⌝ }
+    ensures { λ r. ⌜ r ≡ length (bytesAt quoted (now (s .entry)) at) ⌝ }
+{
+    let mut i = at;
+    let mut n: usize = 0;
+    loop {
+        let j = own_end(s, i, quoted, classes);
+        n += j - i;
+        if byte_at(s, j) != 0x5C {
+            return n;
+        }
+        let Escape::Byte(_) = escape_of(quoted, byte_at(s, j + 1)) else {
+            return n;
+        };
+        n += 1;
         i = j + 2;
     }
 }

@@ -57,6 +57,14 @@ put-then {s} {s₁} {s₂} {u} {v} {at} {m} {r} p q = record {
 pub put-length : {s s₁ u : List ℕ} {at m : ℕ} → Put s s₁ at m u → length s₁ ≡ length s
 put-length {s} {s₁} {u} {at} p = ap length (p .store) ∙ length-sets s at u
 
+-- there is room for the first where there is room for both
+pub room-first : {s : List ℕ} {at : ℕ} (u v : List ℕ) → Room s at (u ++ v) → Room s at u
+room-first u v r = record { fits = omega (arith, r .fits, length-append u v) }
+
+-- and once the first is written, for the second
+pub room-next : {s s₁ u v : List ℕ} {at m : ℕ} → Put s s₁ at m u → Room s at (u ++ v) → Room s₁ m v
+room-next {u = u} {v = v} p r = record { fits = omega (arith, p .place, put-length p, r .fits, length-append u v) }
+
 -- `Writing`: a loop that writes -------------------------------------------------------------------------------------------------
 
 pub writing-start : (s : List ℕ) (at : ℕ) (bytes : List ℕ) → Writing s at bytes s at bytes
