@@ -1,0 +1,44 @@
+-- `record::put_window` meets its contract.
+-- Assumes nothing.
+use native.Mathlib.Omega.{arith}
+use Prim.Native.Nat.{_+_}
+use lib.ListN.{length}
+use Rattle.actions.specs.Within.{within-then, within-more}
+use borrow.Author.Needs.{needs}
+use Rattle.actions.proofs.record.put_window.Statement.{statement}
+use Rattle.actions.proofs.record.put_window.Tie as tie
+
+put-opened-requires : tie.Need-put-opened-requires
+put-opened-requires c κs = search needs
+
+put-any-requires : tie.Need-put-any-requires
+put-any-requires c κs = search needs
+
+put-axis-requires : tie.Need-put-axis-requires
+put-axis-requires c κs = search needs
+
+put-side-requires : tie.Need-put-side-requires
+put-side-requires c κs = search needs
+
+put-count-requires : tie.Need-put-count-requires
+put-count-requires c κs = search needs
+
+same-length : tie.Need-same-length
+same-length c = search needs
+
+returns : tie.Need-returns
+returns c =
+    let n = length (c .before .before .before .before .before .before .before .before .before .before .before .before .before .before .before .before .before .before .before .before .before .before .args .s .now) in
+    within-more ((11 + n) + (10 + (1 + (1 + 11)))) (34 + n) (omega arith) (within-then (11 + n) (10 + (1 + (1 + 11))) (c .before .before .before .before .before .before .before .before .before .before .before .before .before .before .before .before .before .before .put-opened .ensures) (within-then 10 (1 + (1 + 11)) (c .before .before .before .before .before .before .before .before .before .before .before .before .before .before .put-any .ensures) (within-then 1 (1 + 11) (c .before .before .before .before .before .before .before .before .before .before .put-axis .ensures) (within-then 1 11 (c .before .before .before .before .before .before .put-side .ensures) (c .before .before .put-count .ensures)))))
+
+pub put-window-spec : {M : Type 1} → statement M
+put-window-spec =
+    tie.close
+    (tie.spec
+    put-opened-requires
+    put-any-requires
+    put-axis-requires
+    put-side-requires
+    put-count-requires
+    same-length
+    returns)
