@@ -1,0 +1,145 @@
+// Counts and focuses from ranges.
+use super::sum::Sum;
+use super::sum::moved;
+use super::sum::sum_mods;
+use actions::action::Count;
+use actions::action::FocusChange;
+use ranges::range::RangeEnding;
+use ranges::range::RangeEndingType;
+use ranges::range::RangeRead;
+use ranges::range::RangeSpec;
+ghost use mathlib.Core.Path.{_≡_};
+ghost use Rattle.scan.specs.Bytes.{Classes};
+ghost use Rattle.focus.specs.Focus.{toward as towardOf, placed as placedOf, endFocus, rangeFocus, focusOf, atLeastOne, sized as sizedOf, endCount, rangeCount};
+
+// How a handler refuses; the numbers are in specs/Focus.antt.
+pub enum CommandError {
+    ParseFailed,
+    NumberTooLarge,
+    InvalidArgument,
+    InvalidRange,
+    SumTooLarge,
+    Unimplemented,
+}
+
+// The focus that a range names, or a refusal.
+pub enum Focused {
+    To(FocusChange),
+    Refused(CommandError),
+}
+
+// The count that a range names, or a refusal.
+pub enum Counted {
+    Exact(u64),
+    Refused(CommandError),
+}
+
+fn toward(s: Sum, wrap: bool) -> Focused
+    ensures { λ r. ⌜ r ≡ towardOf s wrap ⌝ }
+{
+    match s {
+        Sum::Is(d, k) => Focused::To(FocusChange::Direction1D(d, Count::Exact(k), wrap)),
+        Sum::Over => Focused::Refused(CommandError::SumTooLarge),
+    }
+}
+
+fn placed(n: u64, s: Sum) -> Focused
+    ensures { λ r. ⌜ r ≡ placedOf n s ⌝ }
+{
+    match s {
+        Sum::Is(d, k) => Focused::To(FocusChange::Offset(moved(n, d, k))),
+        Sum::Over => Focused::Refused(CommandError::SumTooLarge),
+    }
+}
+
+// Digits give Offset; none or `.` gives Direction1D; bare `$` gives End.
+fn end_focus(s: &[u8], e: RangeEnding, wrap: bool, classes: &[u8; 256]) -> Focused
+    requires { ⌜ Classes (now classes) ⌝ }
+    ensures { λ r. ⌜ r ≡ endFocus (now (s .entry)) (e .atom) (e .from) (e .to) wrap ⌝ }
+{
+    let a = e.atom;
+    let from = e.from;
+    let to = e.to;
+    match a {
+        RangeEndingType::Absolute(n) => placed(n, sum_mods(s, from, classes)),
+        RangeEndingType::Unspecified => toward(sum_mods(s, from, classes), wrap),
+        RangeEndingType::Current => toward(sum_mods(s, from, classes), wrap),
+        RangeEndingType::Last => {
+            if from == to {
+                return Focused::To(FocusChange::End);
+            }
+            Focused::Refused(CommandError::InvalidRange)
+        }
+        RangeEndingType::All => Focused::Refused(CommandError::InvalidRange),
+        RangeEndingType::Search(_) => Focused::Refused(CommandError::InvalidRange),
+        RangeEndingType::SubPatSearch => Focused::Refused(CommandError::InvalidRange),
+        RangeEndingType::Mark(_) => Focused::Refused(CommandError::InvalidRange),
+    }
+}
+
+pub fn range_to_fc(s: &[u8], g: RangeSpec, wrap: bool, classes: &[u8; 256]) -> Focused
+    requires { ⌜ Classes (now classes) ⌝ }
+    ensures { λ r. ⌜ r ≡ rangeFocus (now (s .entry)) g wrap ⌝ }
+{
+    match g {
+        RangeSpec::Single(e) => end_focus(s, e, wrap, classes),
+        RangeSpec::Double(_, _, _) => Focused::Refused(CommandError::InvalidRange),
+    }
+}
+
+// The focus of an optional range: without one the current window or tab.
+pub fn window_range_target(s: &[u8], g: RangeRead, classes: &[u8; 256]) -> Focused
+    requires { ⌜ Classes (now classes) ⌝ }
+    ensures { λ r. ⌜ r ≡ focusOf (now (s .entry)) g ⌝ }
+{
+    match g {
+        RangeRead::Found(r, _) => range_to_fc(s, r, false, classes),
+        RangeRead::Absent => Focused::To(FocusChange::Current),
+        RangeRead::TooLarge => Focused::Refused(CommandError::NumberTooLarge),
+    }
+}
+
+fn at_least_one(n: u64) -> u64
+    ensures { λ r. ⌜ r ≡ atLeastOne n ⌝ }
+{
+    if n == 0 { 1 } else { n }
+}
+
+fn sized(n: u64, s: Sum) -> Counted
+    ensures { λ r. ⌜ r ≡ sizedOf n s ⌝ }
+{
+    match s {
+        Sum::Is(d, k) => Counted::Exact(at_least_one(moved(n, d, k))),
+        Sum::Over => Counted::Refused(CommandError::SumTooLarge),
+    }
+}
+
+// Digits and offsets, at least 1; anything else is 2^64 - 1, its offsets ignored.
+fn end_count(s: &[u8], e: RangeEnding, classes: &[u8; 256]) -> Counted
+    requires { ⌜ Classes (now classes) ⌝ }
+    ensures { λ r. ⌜ r ≡ endCount (now (s .entry)) (e .atom) (e .from) ⌝ }
+{
+    let a = e.atom;
+    let from = e.from;
+    match a {
+        RangeEndingType::Absolute(n) => sized(n, sum_mods(s, from, classes)),
+        RangeEndingType::Unspecified => Counted::Exact(18446744073709551615),
+        RangeEndingType::Current => Counted::Exact(18446744073709551615),
+        RangeEndingType::Last => Counted::Exact(18446744073709551615),
+        RangeEndingType::All => Counted::Exact(18446744073709551615),
+        RangeEndingType::Search(_) => Counted::Exact(18446744073709551615),
+        RangeEndingType::SubPatSearch => Counted::Exact(18446744073709551615),
+        RangeEndingType::Mark(_) => Counted::Exact(18446744073709551615),
+    }
+}
+
+// The right end of two.
+pub fn range_to_count(s: &[u8], g: RangeSpec, classes: &[u8; 256]) -> Counted
+    requires { ⌜ Classes (now classes) ⌝ }
+    ensures { λ r. ⌜ r ≡ rangeCount (now (s .entry)) g ⌝ }
+{
+    match g {
+        RangeSpec::Single(e) => end_count(s, e, classes),
+        RangeSpec::Double(_, e, _) => end_count(s, e, classes),
+    }
+}
