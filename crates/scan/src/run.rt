@@ -3,6 +3,7 @@ use super::classes::Kind;
 use super::classes::is_kind;
 ghost use mathlib.Core.Path.{_≡_};
 ghost use mathlib.Core.Bool.{true};
+ghost use mathlib.Core.Logic.{_⊎_};
 ghost use Prim.Native.Nat.{_+_, _≤_};
 ghost use lib.ListN.{length};
 ghost use Rattle.scan.specs.Bytes.{Classes, isKind, isSpace, isWord, isText, isPlain, isQuoted};
@@ -39,7 +40,7 @@ pub fn word_end(s: &[u8], at: usize, classes: &[u8; 256]) -> usize
 }
 
 pub fn larger(a: u8, b: u8) -> u8
-    ensures { λ r. ⌜ (a ≤ r) × (b ≤ r) ⌝ }
+    ensures { λ r. ⌜ ((a ≤ r) × (b ≤ r)) × ((r ≡ a) ⊎ (r ≡ b)) ⌝ }
 {
     if a < b { b } else { a }
 }

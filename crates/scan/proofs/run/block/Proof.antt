@@ -41,7 +41,7 @@ loop-again : tie.Need-loop-again Inv-loop μ-loop
 loop-again c =
     let a = c .before .before .before .before .before .before .args in
     let l = c .before .before .before .before .loop in
-    let e = c .larger .ensures in
+    let e = c .larger .ensures .0 in
     let n : a .at + l .i + 1 ≡ a .at + (l .i + 1) = omega arith in (
       search needs,
       (

@@ -1,14 +1,16 @@
 -- `run::larger` meets its contract.
 -- Assumes nothing.
+use mathlib.Core.Logic.{inl, inr}
+use mathlib.Core.Path.{refl}
 use native.Mathlib.Omega.{arith}
 use Rattle.scan.proofs.run.larger.Statement.{statement}
 use Rattle.scan.proofs.run.larger.Tie as tie
 
 returns : tie.Need-returns
-returns c = (omega arith, omega arith)
+returns c = ((omega arith, omega arith), inr refl)
 
 returns-2 : tie.Need-returns-2
-returns-2 c = (omega arith, omega arith)
+returns-2 c = ((omega arith, omega arith), inl refl)
 
 pub larger-spec : {M : Type 1} → statement M
 larger-spec =

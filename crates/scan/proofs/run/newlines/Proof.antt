@@ -39,7 +39,7 @@ loop-again : tie.Need-loop-again Inv-loop μ-loop
 unfolding isText
 loop-again c =
     let l = c .before .before .before .before .loop in
-    let e = c .larger .ensures in (
+    let e = c .larger .ensures .0 in (
       search needs,
       (
         omega arith,

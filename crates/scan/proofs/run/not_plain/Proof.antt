@@ -44,12 +44,12 @@ returns : tie.Need-returns
 unfolding isPlain
 returns c = λ h.
     rw (
-      ne-eqb _ _ (c .before .before .before .before .before .before .before .before .before .before .same .ensures (omega (arith, h, c .larger5 .ensures .0, c .larger5 .ensures .1, c .before .larger4 .ensures .0, c .before .larger4 .ensures .1, c .before .before .larger3 .ensures .0, c .before .before .larger3 .ensures .1, c .before .before .before .before .before .before .larger2 .ensures .0, c .before .before .before .before .before .before .larger2 .ensures .1, c .before .before .before .before .before .before .before .larger .ensures .0, c .before .before .before .before .before .before .before .larger .ensures .1))),
-      ne-eqb _ _ (c .before .before .before .before .before .before .before .before .before .same2 .ensures (omega (arith, h, c .larger5 .ensures .0, c .larger5 .ensures .1, c .before .larger4 .ensures .0, c .before .larger4 .ensures .1, c .before .before .larger3 .ensures .0, c .before .before .larger3 .ensures .1, c .before .before .before .before .before .before .larger2 .ensures .0, c .before .before .before .before .before .before .larger2 .ensures .1, c .before .before .before .before .before .before .before .larger .ensures .0, c .before .before .before .before .before .before .before .larger .ensures .1))),
-      ne-eqb _ _ (c .before .before .before .before .before .before .before .before .same3 .ensures (omega (arith, h, c .larger5 .ensures .0, c .larger5 .ensures .1, c .before .larger4 .ensures .0, c .before .larger4 .ensures .1, c .before .before .larger3 .ensures .0, c .before .before .larger3 .ensures .1, c .before .before .before .before .before .before .larger2 .ensures .0, c .before .before .before .before .before .before .larger2 .ensures .1, c .before .before .before .before .before .before .before .larger .ensures .0, c .before .before .before .before .before .before .before .larger .ensures .1))),
-      ne-eqb _ _ (c .before .before .before .before .before .same4 .ensures (omega (arith, h, c .larger5 .ensures .0, c .larger5 .ensures .1, c .before .larger4 .ensures .0, c .before .larger4 .ensures .1, c .before .before .larger3 .ensures .0, c .before .before .larger3 .ensures .1, c .before .before .before .before .before .before .larger2 .ensures .0, c .before .before .before .before .before .before .larger2 .ensures .1, c .before .before .before .before .before .before .before .larger .ensures .0, c .before .before .before .before .before .before .before .larger .ensures .1))),
-      ne-eqb _ _ (c .before .before .before .before .same5 .ensures (omega (arith, h, c .larger5 .ensures .0, c .larger5 .ensures .1, c .before .larger4 .ensures .0, c .before .larger4 .ensures .1, c .before .before .larger3 .ensures .0, c .before .before .larger3 .ensures .1, c .before .before .before .before .before .before .larger2 .ensures .0, c .before .before .before .before .before .before .larger2 .ensures .1, c .before .before .before .before .before .before .before .larger .ensures .0, c .before .before .before .before .before .before .before .larger .ensures .1))),
-      ne-eqb _ _ (c .before .before .before .same6 .ensures (omega (arith, h, c .larger5 .ensures .0, c .larger5 .ensures .1, c .before .larger4 .ensures .0, c .before .larger4 .ensures .1, c .before .before .larger3 .ensures .0, c .before .before .larger3 .ensures .1, c .before .before .before .before .before .before .larger2 .ensures .0, c .before .before .before .before .before .before .larger2 .ensures .1, c .before .before .before .before .before .before .before .larger .ensures .0, c .before .before .before .before .before .before .before .larger .ensures .1))),
+      ne-eqb _ _ (c .before .before .before .before .before .before .before .before .before .before .same .ensures (omega (arith, h, c .larger5 .ensures .0 .0, c .larger5 .ensures .0 .1, c .before .larger4 .ensures .0 .0, c .before .larger4 .ensures .0 .1, c .before .before .larger3 .ensures .0 .0, c .before .before .larger3 .ensures .0 .1, c .before .before .before .before .before .before .larger2 .ensures .0 .0, c .before .before .before .before .before .before .larger2 .ensures .0 .1, c .before .before .before .before .before .before .before .larger .ensures .0 .0, c .before .before .before .before .before .before .before .larger .ensures .0 .1))),
+      ne-eqb _ _ (c .before .before .before .before .before .before .before .before .before .same2 .ensures (omega (arith, h, c .larger5 .ensures .0 .0, c .larger5 .ensures .0 .1, c .before .larger4 .ensures .0 .0, c .before .larger4 .ensures .0 .1, c .before .before .larger3 .ensures .0 .0, c .before .before .larger3 .ensures .0 .1, c .before .before .before .before .before .before .larger2 .ensures .0 .0, c .before .before .before .before .before .before .larger2 .ensures .0 .1, c .before .before .before .before .before .before .before .larger .ensures .0 .0, c .before .before .before .before .before .before .before .larger .ensures .0 .1))),
+      ne-eqb _ _ (c .before .before .before .before .before .before .before .before .same3 .ensures (omega (arith, h, c .larger5 .ensures .0 .0, c .larger5 .ensures .0 .1, c .before .larger4 .ensures .0 .0, c .before .larger4 .ensures .0 .1, c .before .before .larger3 .ensures .0 .0, c .before .before .larger3 .ensures .0 .1, c .before .before .before .before .before .before .larger2 .ensures .0 .0, c .before .before .before .before .before .before .larger2 .ensures .0 .1, c .before .before .before .before .before .before .before .larger .ensures .0 .0, c .before .before .before .before .before .before .before .larger .ensures .0 .1))),
+      ne-eqb _ _ (c .before .before .before .before .before .same4 .ensures (omega (arith, h, c .larger5 .ensures .0 .0, c .larger5 .ensures .0 .1, c .before .larger4 .ensures .0 .0, c .before .larger4 .ensures .0 .1, c .before .before .larger3 .ensures .0 .0, c .before .before .larger3 .ensures .0 .1, c .before .before .before .before .before .before .larger2 .ensures .0 .0, c .before .before .before .before .before .before .larger2 .ensures .0 .1, c .before .before .before .before .before .before .before .larger .ensures .0 .0, c .before .before .before .before .before .before .before .larger .ensures .0 .1))),
+      ne-eqb _ _ (c .before .before .before .before .same5 .ensures (omega (arith, h, c .larger5 .ensures .0 .0, c .larger5 .ensures .0 .1, c .before .larger4 .ensures .0 .0, c .before .larger4 .ensures .0 .1, c .before .before .larger3 .ensures .0 .0, c .before .before .larger3 .ensures .0 .1, c .before .before .before .before .before .before .larger2 .ensures .0 .0, c .before .before .before .before .before .before .larger2 .ensures .0 .1, c .before .before .before .before .before .before .before .larger .ensures .0 .0, c .before .before .before .before .before .before .before .larger .ensures .0 .1))),
+      ne-eqb _ _ (c .before .before .before .same6 .ensures (omega (arith, h, c .larger5 .ensures .0 .0, c .larger5 .ensures .0 .1, c .before .larger4 .ensures .0 .0, c .before .larger4 .ensures .0 .1, c .before .before .larger3 .ensures .0 .0, c .before .before .larger3 .ensures .0 .1, c .before .before .before .before .before .before .larger2 .ensures .0 .0, c .before .before .before .before .before .before .larger2 .ensures .0 .1, c .before .before .before .before .before .before .before .larger .ensures .0 .0, c .before .before .before .before .before .before .before .larger .ensures .0 .1))),
     )
 
 pub not-plain-spec : {M : Type 1} → statement M

@@ -32,10 +32,10 @@ returns : tie.Need-returns
 unfolding isQuoted
 returns c = λ h.
     rw (
-      ne-eqb _ _ (c .before .before .before .before .before .before .same .ensures (omega (arith, h, c .larger3 .ensures .0, c .larger3 .ensures .1, c .before .larger2 .ensures .0, c .before .larger2 .ensures .1, c .before .before .before .before .larger .ensures .0, c .before .before .before .before .larger .ensures .1))),
-      ne-eqb _ _ (c .before .before .before .before .before .same2 .ensures (omega (arith, h, c .larger3 .ensures .0, c .larger3 .ensures .1, c .before .larger2 .ensures .0, c .before .larger2 .ensures .1, c .before .before .before .before .larger .ensures .0, c .before .before .before .before .larger .ensures .1))),
-      ne-eqb _ _ (c .before .before .before .same3 .ensures (omega (arith, h, c .larger3 .ensures .0, c .larger3 .ensures .1, c .before .larger2 .ensures .0, c .before .larger2 .ensures .1, c .before .before .before .before .larger .ensures .0, c .before .before .before .before .larger .ensures .1))),
-      ne-eqb _ _ (c .before .before .same4 .ensures (omega (arith, h, c .larger3 .ensures .0, c .larger3 .ensures .1, c .before .larger2 .ensures .0, c .before .larger2 .ensures .1, c .before .before .before .before .larger .ensures .0, c .before .before .before .before .larger .ensures .1))),
+      ne-eqb _ _ (c .before .before .before .before .before .before .same .ensures (omega (arith, h, c .larger3 .ensures .0 .0, c .larger3 .ensures .0 .1, c .before .larger2 .ensures .0 .0, c .before .larger2 .ensures .0 .1, c .before .before .before .before .larger .ensures .0 .0, c .before .before .before .before .larger .ensures .0 .1))),
+      ne-eqb _ _ (c .before .before .before .before .before .same2 .ensures (omega (arith, h, c .larger3 .ensures .0 .0, c .larger3 .ensures .0 .1, c .before .larger2 .ensures .0 .0, c .before .larger2 .ensures .0 .1, c .before .before .before .before .larger .ensures .0 .0, c .before .before .before .before .larger .ensures .0 .1))),
+      ne-eqb _ _ (c .before .before .before .same3 .ensures (omega (arith, h, c .larger3 .ensures .0 .0, c .larger3 .ensures .0 .1, c .before .larger2 .ensures .0 .0, c .before .larger2 .ensures .0 .1, c .before .before .before .before .larger .ensures .0 .0, c .before .before .before .before .larger .ensures .0 .1))),
+      ne-eqb _ _ (c .before .before .same4 .ensures (omega (arith, h, c .larger3 .ensures .0 .0, c .larger3 .ensures .0 .1, c .before .larger2 .ensures .0 .0, c .before .larger2 .ensures .0 .1, c .before .before .before .before .larger .ensures .0 .0, c .before .before .before .before .larger .ensures .0 .1))),
     )
 
 pub not-quoted-spec : {M : Type 1} → statement M

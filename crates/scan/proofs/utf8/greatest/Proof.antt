@@ -35,7 +35,7 @@ loop-less c = search needs
 loop-again : tie.Need-loop-again Inv-loop μ-loop
 loop-again c =
     let l = c .before .before .before .loop in
-    let e = c .larger .ensures in
+    let e = c .larger .ensures .0 in
     (search needs, λ h. l .inv .1 (omega (arith, e .0)) ∙ ascii-on _ _ (search needs) (omega (arith, e .1)))
 
 returns : tie.Need-returns Inv-loop μ-loop
