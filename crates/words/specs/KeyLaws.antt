@@ -1,0 +1,225 @@
+-- Laws of lookup by numbers: it finds what lookup by bytes finds.
+-- Assumes nothing.
+use mathlib.Core.Path.{_≡_, refl, _∙_, sym, ap}
+use mathlib.Core.Bool.{Bool, true, false, _&&_, false≢true}
+use mathlib.Core.List.{List, [], _∷_}
+use Prim.Native.Nat.{ℕ, zero, suc, _+_, _-_, _*_, _^_, _<_, _≤_}
+use native.Mathlib.Omega.{arith}
+use lib.Dec.{eqb, ltb, leb}
+use lib.ListN.{length, getD, take, drop, drop-of-length-le, length-take, length-drop}
+use lib.Seq.{take-all}
+use borrow.Author.Tests.{eqb-true, eqb-false, eq-eqb, ne-eqb, ltb-true, leb-true}
+use Rattle.scan.specs.Scan.{partOf}
+use Rattle.scan.specs.RunLaws.{and-left, and-right}
+use Rattle.words.specs.Words.{Row, aliases, names, shipped, same, lookupIn, lookup}
+use Rattle.words.specs.Keys.{packFrom, pack, ofLength, keysOf, keyIn, keyed}
+use Rattle.words.specs.declared.words.Named.{Named}
+
+-- bytes ---------------------------------------------------------------------------------------------------------------------------
+
+-- every element is a byte
+abbrev pub Bytes : List ℕ → Type 0
+Bytes [] = Unit {0}
+Bytes (x ∷ xs) = (x < 256) × Bytes xs
+
+pub all-bytes : (w : List ℕ) → ((i : ℕ) → getD w i 0 < 256) → Bytes w
+all-bytes [] h = tt
+all-bytes (x ∷ xs) h = (h 0, all-bytes xs (λ i. h (suc i)))
+
+abbrev testBytes : List ℕ → Bool
+testBytes [] = true
+testBytes (x ∷ xs) = ltb x 256 && testBytes xs
+
+tested : (w : List ℕ) → testBytes w ≡ true → Bytes w
+tested [] e = tt
+tested (x ∷ xs) e = (ltb-true x 256 (and-left _ _ e), tested xs (and-right (ltb x 256) _ e))
+
+-- every word of the rows is of bytes
+abbrev ByteRows : List Row → Type 0
+ByteRows [] = Unit {0}
+ByteRows (r ∷ rs) = Bytes (r .word) × ByteRows rs
+
+abbrev testRows : List Row → Bool
+testRows [] = true
+testRows (r ∷ rs) = testBytes (r .word) && testRows rs
+
+tested-rows : (rs : List Row) → testRows rs ≡ true → ByteRows rs
+tested-rows [] e = tt
+tested-rows (r ∷ rs) e = (tested (r .word) (and-left _ _ e), tested-rows rs (and-right (testBytes (r .word)) _ e))
+
+-- numbers ---------------------------------------------------------------------------------------------------------------------------
+
+last-digit : (a b x y : ℕ) → x < 256 → y < 256 → eqb (a * 256 + x) (b * 256 + y) ≡ (eqb a b && eqb x y)
+last-digit a b x y h k = go (eqb a b) (eqb x y) refl refl
+  where
+    go : (c d : Bool) → eqb a b ≡ c → eqb x y ≡ d → eqb (a * 256 + x) (b * 256 + y) ≡ (c && d)
+    go true true p q =
+        let e = eqb-true a b p in
+        let f = eqb-true x y q in
+        eq-eqb (a * 256 + x) (b * 256 + y) (omega arith)
+    go true false p q =
+        let e = eqb-true a b p in
+        let f : (x ≡ y → ⊥) = eqb-false x y q in
+        ne-eqb (a * 256 + x) (b * 256 + y) (λ z. f (omega arith))
+    go false d p q = let e : (a ≡ b → ⊥) = eqb-false a b p in ne-eqb (a * 256 + x) (b * 256 + y) (λ z. e (omega arith))
+
+and-assoc : (a b c : Bool) → ((a && b) && c) ≡ (a && (b && c))
+and-assoc true b c = refl
+and-assoc false b c = refl
+
+pack-same : (a b : ℕ) (u v : List ℕ) → length u ≡ length v → Bytes u → Bytes v → eqb (packFrom a u) (packFrom b v) ≡ (eqb a b && same u v)
+unfolding packFrom same
+pack-same a b [] [] e h k = go (eqb a b)
+  where
+    go : (c : Bool) → c ≡ (c && true)
+    go true = refl
+    go false = refl
+pack-same a b [] (y ∷ v) e h k = absurd (omega arith)
+pack-same a b (x ∷ u) [] e h k = absurd (omega arith)
+pack-same a b (x ∷ u) (y ∷ v) e h k =
+    pack-same (a * 256 + x) (b * 256 + y) u v (omega arith) (h .1) (k .1)
+    ∙ ap (λ (c : Bool). c && same u v) (last-digit a b x y (h .0) (k .0))
+    ∙ and-assoc (eqb a b) (eqb x y) (same u v)
+
+-- words in two parts --------------------------------------------------------------------------------------------------------------------
+
+same-parts : (n : ℕ) (u v : List ℕ) → (same (take n u) (take n v) && same (drop n u) (drop n v)) ≡ same u v
+unfolding same
+same-parts zero u v = refl
+same-parts (suc n) [] [] = refl
+same-parts (suc n) [] (y ∷ v) = refl
+same-parts (suc n) (x ∷ u) [] = refl
+same-parts (suc n) (x ∷ u) (y ∷ v) =
+    and-assoc (eqb x y) (same (take n u) (take n v)) (same (drop n u) (drop n v)) ∙ ap (λ (c : Bool). eqb x y && c) (same-parts n u v)
+
+take-size : (n : ℕ) (u v : List ℕ) → length u ≡ length v → length (take n u) ≡ length (take n v)
+take-size zero u v e = refl
+take-size (suc n) [] [] e = refl
+take-size (suc n) [] (y ∷ v) e = absurd (omega arith)
+take-size (suc n) (x ∷ u) [] e = absurd (omega arith)
+take-size (suc n) (x ∷ u) (y ∷ v) e = ap suc (take-size n u v (omega arith))
+
+drop-size : (n : ℕ) (u v : List ℕ) → length u ≡ length v → length (drop n u) ≡ length (drop n v)
+drop-size zero u v e = e
+drop-size (suc n) [] [] e = refl
+drop-size (suc n) [] (y ∷ v) e = absurd (omega arith)
+drop-size (suc n) (x ∷ u) [] e = absurd (omega arith)
+drop-size (suc n) (x ∷ u) (y ∷ v) e = drop-size n u v (omega arith)
+
+take-bytes : (n : ℕ) (u : List ℕ) → Bytes u → Bytes (take n u)
+take-bytes zero u h = tt
+take-bytes (suc n) [] h = tt
+take-bytes (suc n) (x ∷ u) h = (h .0, take-bytes n u (h .1))
+
+drop-bytes : (n : ℕ) (u : List ℕ) → Bytes u → Bytes (drop n u)
+drop-bytes zero u h = h
+drop-bytes (suc n) [] h = tt
+drop-bytes (suc n) (x ∷ u) h = drop-bytes n u (h .1)
+
+packed : (u v : List ℕ) → length u ≡ length v → Bytes u → Bytes v → eqb (pack u) (pack v) ≡ same u v
+unfolding pack
+packed u v e h k = pack-same 0 0 u v e h k
+
+keys-same : (u v : List ℕ) → length u ≡ length v → Bytes u → Bytes v →
+    (eqb (pack (take 8 u)) (pack (take 8 v)) && eqb (pack (drop 8 u)) (pack (drop 8 v))) ≡ same u v
+keys-same u v e h k =
+    rw (
+      packed (take 8 u) (take 8 v) (take-size 8 u v e) (take-bytes 8 u h) (take-bytes 8 v k),
+      packed (drop 8 u) (drop 8 v) (drop-size 8 u v e) (drop-bytes 8 u h) (drop-bytes 8 v k),
+    ) (same-parts 8 u v)
+
+-- words of other lengths --------------------------------------------------------------------------------------------------------------
+
+same-length : (u v : List ℕ) → same u v ≡ true → length u ≡ length v
+unfolding same
+same-length [] [] e = refl
+same-length [] (y ∷ v) e = absurd (false≢true e)
+same-length (x ∷ u) [] e = absurd (false≢true e)
+same-length (x ∷ u) (y ∷ v) e = ap suc (same-length u v (and-right (eqb x y) _ e))
+
+look-yes : (r : Row) (rs : List Row) (w : List ℕ) → same w (r .word) ≡ true → lookupIn (r ∷ rs) w ≡ Named.Command (r .command)
+unfolding lookupIn
+look-yes r rs w e = rw (e, lookupIn)
+
+look-no : (r : Row) (rs : List Row) (w : List ℕ) → same w (r .word) ≡ false → lookupIn (r ∷ rs) w ≡ lookupIn rs w
+unfolding lookupIn
+look-no r rs w e = rw (e, lookupIn)
+
+-- only the words of the same length matter, and each is told by its number
+pub lookup-key : (rs : List Row) (w : List ℕ) → ByteRows rs → Bytes w → lookupIn rs w ≡ keyIn (keysOf (ofLength (length w) rs)) (pack (take 8 w)) (pack (drop 8 w))
+unfolding lookupIn ofLength keysOf keyIn
+lookup-key [] w h k = refl
+lookup-key (r ∷ rs) w h k = go (eqb (length (r .word)) (length w)) (same w (r .word)) refl refl (lookup-key rs w (h .1) k)
+  where
+    go : (t u : Bool) → eqb (length (r .word)) (length w) ≡ t → same w (r .word) ≡ u →
+        lookupIn rs w ≡ keyIn (keysOf (ofLength (length w) rs)) (pack (take 8 w)) (pack (drop 8 w)) →
+        lookupIn (r ∷ rs) w ≡ keyIn (keysOf (elim t as (λ x. List Row) [ true ↦ r ∷ ofLength (length w) rs | false ↦ ofLength (length w) rs ])) (pack (take 8 w)) (pack (drop 8 w))
+    go true true p q ih = look-yes r rs w q ∙ rw (keys-same w (r .word) (sym (eqb-true _ _ p)) k (h .0), q)
+    go true false p q ih = look-no r rs w q ∙ (ih ∙ rw (keys-same w (r .word) (sym (eqb-true _ _ p)) k (h .0), q))
+    go false true p q ih = absurd (eqb-false (length (r .word)) (length w) p (sym (same-length w (r .word) q)))
+    go false false p q ih = look-no r rs w q ∙ ih
+
+shipped-bytes : ByteRows shipped
+unfolding shipped aliases names
+shipped-bytes = tested-rows shipped refl
+
+-- what the words of w's length lead its numbers to is what lookup leads w to
+pub shipped-key : (w : List ℕ) → Bytes w → lookup w ≡ keyed (length w) (pack (take 8 w)) (pack (drop 8 w))
+unfolding lookup keyed
+shipped-key w h = lookup-key shipped w shipped-bytes h
+
+pub short-key : (w : List ℕ) → Bytes w → length w ≤ 8 → lookup w ≡ keyed (length w) (pack w) 0
+unfolding pack packFrom
+short-key w h l =
+    let e = shipped-key w h in rw (take-all 8 w l, drop-of-length-le w {i = 8} l) at e
+
+pub long-key : (w : List ℕ) → Bytes w → lookup w ≡ keyed (length w) (pack (partOf w 0 8)) (pack (partOf w 8 (length w)))
+long-key w h = rw (take-all (length w - 8) (drop 8 w) (omega (arith, length-drop 8 w))) (shipped-key w h)
+
+-- no shipped word has no byte, and none has more than eleven --------------------------------------------------------------------------
+
+abbrev testSizes : List Row → Bool
+testSizes [] = true
+testSizes (r ∷ rs) = leb (length (r .word)) 11 && testSizes rs
+
+none-longer : (n : ℕ) (rs : List Row) → testSizes rs ≡ true → 12 ≤ n → ofLength n rs ≡ []
+unfolding ofLength
+none-longer n [] e h = refl
+none-longer n (r ∷ rs) e h =
+    let l = leb-true (length (r .word)) 11 (and-left _ _ e) in
+    rw (ne-eqb (length (r .word)) n (omega arith), ofLength) (none-longer n rs (and-right (leb (length (r .word)) 11) _ e) h)
+
+shipped-longer : (n : ℕ) → 12 ≤ n → ofLength n shipped ≡ []
+unfolding shipped aliases names
+shipped-longer n h = none-longer n shipped refl h
+
+pub keyed-longer : (n f b : ℕ) → 12 ≤ n → keyed n f b ≡ Named.Unknown
+unfolding keyed keyIn keysOf
+keyed-longer n f b h = rw (shipped-longer n h)
+
+pub keyed-empty : (f b : ℕ) → keyed 0 f b ≡ Named.Unknown
+unfolding keyed keyIn keysOf ofLength shipped aliases names
+keyed-empty f b = refl
+
+pub lookup-longer : (w : List ℕ) → Bytes w → 12 ≤ length w → lookup w ≡ Named.Unknown
+lookup-longer w h l = shipped-key w h ∙ keyed-longer (length w) _ _ l
+
+pub part-size : (w : List ℕ) (a e : ℕ) → length (partOf w a e) ≤ e - a
+part-size w a e = omega (arith, length-take (e - a) (drop a w))
+
+-- one byte more, for the loop
+pub pack-on : (k b : ℕ) (bs : List ℕ) → packFrom k (b ∷ bs) ≡ packFrom (k * 256 + b) bs
+unfolding packFrom
+pack-on k b bs = refl
+
+-- seven bytes are below 2^56
+pub pow-seven : (i : ℕ) → i ≤ 7 → 256 ^ i ≤ 72057594037927936
+pow-seven zero h = omega arith
+pow-seven (suc zero) h = omega arith
+pow-seven (suc (suc zero)) h = omega arith
+pow-seven (suc (suc (suc zero))) h = omega arith
+pow-seven (suc (suc (suc (suc zero)))) h = omega arith
+pow-seven (suc (suc (suc (suc (suc zero))))) h = omega arith
+pow-seven (suc (suc (suc (suc (suc (suc zero)))))) h = omega arith
+pow-seven (suc (suc (suc (suc (suc (suc (suc zero))))))) h = omega arith
+pow-seven (suc (suc (suc (suc (suc (suc (suc (suc i)))))))) h = absurd (omega arith)
