@@ -1,5 +1,7 @@
 // Replays the oracle's vectors for ranges, lists and readings (ops 3 to 7) through the public functions of `reading`,
 // and prints how many agree. An answer is built as the oracle writes it, byte for byte.
+mod vectors;
+
 use libc::STDIN_FILENO;
 use lists::option::OptionType;
 use ranges::range::MoveDir1D;
@@ -16,6 +18,7 @@ use reading::alone::Refusal;
 use reading::alone::StringsReply;
 use reading::line::CommandDescription;
 use reading::line::CommandRead;
+use scan::part::part;
 use vectors::Frame;
 use vectors::Tally;
 
@@ -168,7 +171,7 @@ fn put_offsets(out: &mut [u8], n: usize, s: &[u8]) -> usize {
 fn put_end(out: &mut [u8], n: usize, text: &[u8], e: RangeEnding) -> usize {
     let a = e.atom;
     let m = put_atom(out, n, a);
-    put_offsets(out, m, scan::part::part(text, e.from, e.to))
+    put_offsets(out, m, part(text, e.from, e.to))
 }
 
 fn separator(p: RangeSearchInit) -> u64 {
@@ -215,7 +218,7 @@ fn put_filename(out: &mut [u8], n: usize, t: OpenTarget, store: &[u8]) -> usize 
         OpenTarget::Current => vectors::put_number(out, n, 1),
         OpenTarget::Name(m) => {
             let k = vectors::put_number(out, n, 2);
-            vectors::put_name(out, k, vectors::front(store, m))
+            vectors::put_name(out, k, part(store, 0, m))
         }
     }
 }
@@ -263,7 +266,7 @@ fn string_turn(text: &[u8], place: usize, out: &mut [u8], n: usize) -> ItemTurn 
         StringsReply::Item(count, k) => {
             let m = put_head(out, n, place, count);
             ItemTurn {
-                n: vectors::put_name(out, m, vectors::front(&store, k)),
+                n: vectors::put_name(out, m, part(&store, 0, k)),
                 more: true,
             }
         }
@@ -274,16 +277,16 @@ fn put_option(out: &mut [u8], n: usize, o: OptionType, store: &[u8]) -> usize {
     match o {
         OptionType::Positional(k) => {
             let m = vectors::put_number(out, n, 0);
-            vectors::put_name(out, m, vectors::front(store, k))
+            vectors::put_name(out, m, part(store, 0, k))
         }
         OptionType::Flag(k) => {
             let m = vectors::put_number(out, n, 1);
-            vectors::put_name(out, m, vectors::front(store, k))
+            vectors::put_name(out, m, part(store, 0, k))
         }
         OptionType::FlagValue(k, v) => {
             let m = vectors::put_number(out, n, 2);
-            let j = vectors::put_name(out, m, vectors::front(store, k));
-            vectors::put_name(out, j, vectors::front(vectors::rest(store, k), v))
+            let j = vectors::put_name(out, m, part(store, 0, k));
+            vectors::put_name(out, j, part(part(store, k, store.len()), 0, v))
         }
     }
 }
@@ -344,7 +347,7 @@ fn put_optional_range(out: &mut [u8], n: usize, text: &[u8], r: RangeRead) -> us
 fn put_reading(out: &mut [u8], n: usize, text: &[u8], d: CommandDescription) -> usize {
     let r = d.range;
     let a = put_optional_range(out, n, text, r);
-    let b = vectors::put_name(out, a, scan::part::part(text, d.word, d.end));
+    let b = vectors::put_name(out, a, part(text, d.word, d.end));
     let c = vectors::put_number(out, b, if d.bang { 1 } else { 0 });
     vectors::put_name(out, c, reading::line::argument(text, d))
 }
@@ -373,7 +376,7 @@ fn answer(op: u8, text: &[u8], out: &mut [u8]) -> usize {
 fn agrees(op: u8, text: &[u8], want: &[u8]) -> bool {
     let mut out = [0u8; 4096];
     let n = answer(op, text, &mut out);
-    check::same(vectors::front(&out, n), want)
+    check::same(part(&out, 0, n), want)
 }
 
 fn turn(t: Tally) -> Tally {
@@ -384,7 +387,7 @@ fn turn(t: Tally) -> Tally {
         Frame::Broken => vectors::broken(t),
         Frame::Vector(op, n, m) => vectors::counted(
             t,
-            agrees(op, vectors::front(&text, n), vectors::front(&want, m)),
+            agrees(op, part(&text, 0, n), part(&want, 0, m)),
         ),
     }
 }

@@ -1,6 +1,5 @@
-// The oracle's vectors, for the programs that replay them: reading one, building an answer, counting those that agree.
+// The oracle's vectors: reading one, building an answer, counting those that agree.
 // A vector: op, the text's length (two bytes, low first), the text, the answer's length (two bytes, low first), the answer.
-// Nothing of the product rests on this library; its functions are proved safe and ending.
 use libc::STDOUT_FILENO;
 
 // A vector that was read: its op and the lengths of its text and its answer; or the end; or an input that stops within a vector.
@@ -23,16 +22,6 @@ fn wide(b: u8) -> usize {
 
 fn pair(low: u8, high: u8) -> usize {
     wide(low) | (wide(high) << 8)
-}
-
-// The first n bytes, where there are that many.
-pub fn front(s: &[u8], n: usize) -> &[u8] {
-    if n <= s.len() { &s[0..n] } else { s }
-}
-
-// What stands behind the first n bytes.
-pub fn rest(s: &[u8], n: usize) -> &[u8] {
-    if n <= s.len() { &s[n..] } else { s }
 }
 
 // Reads n bytes to the front of a buffer, where they fit.
