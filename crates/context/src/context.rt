@@ -86,11 +86,13 @@ impl CommandContext {
         }
     }
 
-    pub fn with_open_flags(mut self, f: OpenFlags) -> CommandContext
+    pub fn with_open_flags(self, f: OpenFlags) -> CommandContext
         ensures { λ r. ⌜ r ≡ setFlags f self ⌝ }
     {
-        self.open_flags = f;
-        self
+        CommandContext {
+            open_flags: f,
+            ..self
+        }
     }
 
     // The axis that was set, or else the default.

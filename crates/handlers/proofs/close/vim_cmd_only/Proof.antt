@@ -1,0 +1,23 @@
+-- `close::vim_cmd_only` meets its contract.
+-- Assumes nothing.
+
+use borrow.Author.Needs.{needs}
+use Rattle.handlers.proofs.close.vim_cmd_only.Statement.{statement}
+use Rattle.handlers.proofs.close.vim_cmd_only.Tie as tie
+
+quitting-requires : tie.Need-quitting-requires
+quitting-requires c κs = search needs
+
+window-range-target-requires : tie.Need-window-range-target-requires
+window-range-target-requires c κs = search needs
+
+close-others-requires : tie.Need-close-others-requires
+close-others-requires c κs = search needs
+
+returns : tie.Need-returns
+returns c = rw (c .close-others .ensures, c .before .window-range-target .ensures, c .before .before .quitting .ensures)
+
+pub vim-cmd-only-spec : {M : Type 1} → statement M
+vim-cmd-only-spec =
+    tie.close
+    (tie.spec quitting-requires window-range-target-requires close-others-requires returns)

@@ -1,0 +1,22 @@
+-- `close::vim_cmd_tabclose` meets its contract.
+-- Assumes nothing.
+
+use borrow.Author.Needs.{needs}
+use Rattle.handlers.proofs.close.vim_cmd_tabclose.Statement.{statement}
+use Rattle.handlers.proofs.close.vim_cmd_tabclose.Tie as tie
+
+quitting-requires : tie.Need-quitting-requires
+quitting-requires c κs = search needs
+
+window-range-target-requires : tie.Need-window-range-target-requires
+window-range-target-requires c κs = search needs
+
+close-tab-requires : tie.Need-close-tab-requires
+close-tab-requires c κs = search needs
+
+returns : tie.Need-returns
+returns c = rw (c .close-tab .ensures, c .before .window-range-target .ensures, c .before .before .quitting .ensures)
+
+pub vim-cmd-tabclose-spec : {M : Type 1} → statement M
+vim-cmd-tabclose-spec =
+    tie.close (tie.spec quitting-requires window-range-target-requires close-tab-requires returns)
