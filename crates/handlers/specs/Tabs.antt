@@ -7,11 +7,12 @@ use Prim.Native.Nat.{ℕ}
 use lib.Dec.{eqb}
 use lib.ListN.{length}
 use Rattle.scan.specs.Scan.{partOf}
-use Rattle.ranges.specs.Range.{rangeAt}
+use Rattle.ranges.specs.Range.{wholeRange}
 use Rattle.ranges.specs.declared.range.MoveDir1D.{MoveDir1D}
 use Rattle.ranges.specs.declared.range.RangeEndingType.{RangeEndingType}
 use Rattle.ranges.specs.declared.range.RangeRead.{RangeRead}
 use Rattle.ranges.specs.declared.range.RangeSpec.{RangeSpec}
+use Rattle.ranges.specs.declared.range.WholeRead.{WholeRead}
 use Rattle.actions.specs.declared.action.Action.{Action}
 use Rattle.actions.specs.declared.action.Count.{Count}
 use Rattle.actions.specs.declared.action.FocusChange.{FocusChange}
@@ -22,20 +23,10 @@ use Rattle.focus.specs.declared.focus.Focused.{Focused}
 use Rattle.reading.specs.declared.line.CommandDescription.{CommandDescription}
 use Rattle.handlers.specs.declared.done.Done.{Done}
 use Rattle.handlers.specs.declared.tabs.TabRange.{TabRange}
-use Rattle.handlers.specs.declared.tabs.Whole.{Whole}
 
 -- the argument of a reading
 abbrev pub argumentOf : List ℕ → CommandDescription → List ℕ
 argumentOf s d = partOf s (d .argument) (d .stop)
-
--- a text of n bytes read as a range: all of it must be one
-unfoldable pub wholeIs : ℕ → RangeRead → Whole
-wholeIs n (RangeRead.Found g j) = cond (eqb j n) (Whole.Range g) Whole.Bad
-wholeIs n RangeRead.Absent = Whole.Bad
-wholeIs n RangeRead.TooLarge = Whole.TooLarge
-
-unfoldable pub wholeOf : List ℕ → Whole
-wholeOf a = wholeIs (length a) (rangeAt a 0)
 
 -- the range before the word, where there is no argument
 unfoldable pub unargued : RangeRead → TabRange
@@ -44,19 +35,19 @@ unargued RangeRead.Absent = TabRange.Absent
 unargued RangeRead.TooLarge = TabRange.Refused CommandError.NumberTooLarge
 
 -- the range that the argument is
-unfoldable pub argued : Whole → TabRange
-argued (Whole.Range g) = TabRange.InArgument g
-argued Whole.Bad = TabRange.Refused CommandError.InvalidArgument
-argued Whole.TooLarge = TabRange.Refused CommandError.NumberTooLarge
+unfoldable pub argued : WholeRead → TabRange
+argued (WholeRead.Range g) = TabRange.InArgument g
+argued WholeRead.Bad = TabRange.Refused CommandError.InvalidArgument
+argued WholeRead.TooLarge = TabRange.Refused CommandError.NumberTooLarge
 
 -- both is 5, and the argument is then not read
-unfoldable pub either : RangeRead → Whole → TabRange
+unfoldable pub either : RangeRead → WholeRead → TabRange
 either (RangeRead.Found g j) w = TabRange.Refused CommandError.InvalidArgument
 either RangeRead.Absent w = argued w
 either RangeRead.TooLarge w = TabRange.Refused CommandError.NumberTooLarge
 
 unfoldable pub tabRange : RangeRead → List ℕ → TabRange
-tabRange g a = cond (eqb (length a) 0) (unargued g) (either g (wholeOf a))
+tabRange g a = cond (eqb (length a) 0) (unargued g) (either g (wholeRange a))
 
 unfoldable pub focusing : Focused → Done
 focusing (Focused.To c) = Done.Act (Action.Tab (TabAction.Focus c))
@@ -105,15 +96,15 @@ unfoldable pub tabprevOf : List ℕ → CommandDescription → Done
 tabprevOf s d = prevBy (tabRange (d .range) (argumentOf s d))
 
 -- 16: the range before the word, or the one that the argument is, or the end
-unfoldable pub moveArgument : List ℕ → Whole → Focused
-moveArgument a (Whole.Range g) = rangeFocus a g false
-moveArgument a Whole.Bad = Focused.Refused CommandError.ParseFailed
-moveArgument a Whole.TooLarge = Focused.Refused CommandError.NumberTooLarge
+unfoldable pub moveArgument : List ℕ → WholeRead → Focused
+moveArgument a (WholeRead.Range g) = rangeFocus a g false
+moveArgument a WholeRead.Bad = Focused.Refused CommandError.ParseFailed
+moveArgument a WholeRead.TooLarge = Focused.Refused CommandError.NumberTooLarge
 
 unfoldable pub moveRange : List ℕ → RangeRead → List ℕ → Focused
 moveRange s (RangeRead.Found g j) a = rangeFocus s g false
 moveRange s RangeRead.TooLarge a = Focused.Refused CommandError.NumberTooLarge
-moveRange s RangeRead.Absent a = cond (eqb (length a) 0) (Focused.To FocusChange.End) (moveArgument a (wholeOf a))
+moveRange s RangeRead.Absent a = cond (eqb (length a) 0) (Focused.To FocusChange.End) (moveArgument a (wholeRange a))
 
 unfoldable pub tabmoveOf : List ℕ → CommandDescription → Done
 tabmoveOf s d = moving (moveRange s (d .range) (argumentOf s d))

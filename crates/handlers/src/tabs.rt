@@ -12,19 +12,13 @@ use ranges::range::RangeEnding;
 use ranges::range::RangeEndingType;
 use ranges::range::RangeRead;
 use ranges::range::RangeSpec;
-use ranges::range::parse_range;
+use ranges::range::WholeRead;
+use ranges::range::parse_whole_range;
 use reading::line::CommandDescription;
 use scan::part::part;
 ghost use mathlib.Core.Path.{_≡_};
 ghost use Rattle.scan.specs.Bytes.{Classes};
-ghost use Rattle.handlers.specs.Tabs.{wholeIs, wholeOf, unargued as unarguedOf, argued as arguedOf, tabRange, focusing, moving, back as backOf, backEnd, nextBy, tabnextOf, prevBy, tabprevOf, moveArgument, moveRange, tabmoveOf};
-
-// A text read as a range.
-pub enum Whole {
-    Range(RangeSpec),
-    Bad,
-    TooLarge,
-}
+ghost use Rattle.handlers.specs.Tabs.{unargued as unarguedOf, argued as arguedOf, tabRange, focusing, moving, back as backOf, backEnd, nextBy, tabnextOf, prevBy, tabprevOf, moveArgument, moveRange, tabmoveOf};
 
 // The range of a command that takes it before its word or as its argument.
 pub enum TabRange {
@@ -32,24 +26,6 @@ pub enum TabRange {
     InLine(RangeSpec),
     InArgument(RangeSpec),
     Refused(CommandError),
-}
-
-fn whole_is(n: usize, g: RangeRead) -> Whole
-    ensures { λ r. ⌜ r ≡ wholeIs n g ⌝ }
-{
-    match g {
-        RangeRead::Found(x, j) => { if j == n { Whole::Range(x) } else { Whole::Bad } }
-        RangeRead::Absent => Whole::Bad,
-        RangeRead::TooLarge => Whole::TooLarge,
-    }
-}
-
-// The whole text must be a range.
-fn whole_range(a: &[u8], classes: &[u8; 256]) -> Whole
-    requires { ⌜ Classes (now classes) ⌝ }
-    ensures { λ r. ⌜ r ≡ wholeOf (now (a .entry)) ⌝ }
-{
-    whole_is(a.len(), parse_range(a, 0, classes))
 }
 
 fn unargued(g: RangeRead) -> TabRange
@@ -62,13 +38,13 @@ fn unargued(g: RangeRead) -> TabRange
     }
 }
 
-fn argued(w: Whole) -> TabRange
+fn argued(w: WholeRead) -> TabRange
     ensures { λ r. ⌜ r ≡ arguedOf w ⌝ }
 {
     match w {
-        Whole::Range(x) => TabRange::InArgument(x),
-        Whole::Bad => TabRange::Refused(CommandError::InvalidArgument),
-        Whole::TooLarge => TabRange::Refused(CommandError::NumberTooLarge),
+        WholeRead::Range(x) => TabRange::InArgument(x),
+        WholeRead::Bad => TabRange::Refused(CommandError::InvalidArgument),
+        WholeRead::TooLarge => TabRange::Refused(CommandError::NumberTooLarge),
     }
 }
 
@@ -81,7 +57,7 @@ fn tab_range(g: RangeRead, a: &[u8], classes: &[u8; 256]) -> TabRange
     }
     match g {
         RangeRead::Found(_, _) => TabRange::Refused(CommandError::InvalidArgument),
-        RangeRead::Absent => argued(whole_range(a, classes)),
+        RangeRead::Absent => argued(parse_whole_range(a, classes)),
         RangeRead::TooLarge => TabRange::Refused(CommandError::NumberTooLarge),
     }
 }
@@ -189,14 +165,14 @@ pub fn vim_cmd_tabprev(s: &[u8], d: CommandDescription, classes: &[u8; 256]) -> 
     prev_by(tab_range(g, part(s, d.argument, d.stop), classes))
 }
 
-fn move_argument(a: &[u8], w: Whole, classes: &[u8; 256]) -> Focused
+fn move_argument(a: &[u8], w: WholeRead, classes: &[u8; 256]) -> Focused
     requires { ⌜ Classes (now classes) ⌝ }
     ensures { λ r. ⌜ r ≡ moveArgument (now (a .entry)) w ⌝ }
 {
     match w {
-        Whole::Range(x) => range_to_fc(a, x, false, classes),
-        Whole::Bad => Focused::Refused(CommandError::ParseFailed),
-        Whole::TooLarge => Focused::Refused(CommandError::NumberTooLarge),
+        WholeRead::Range(x) => range_to_fc(a, x, false, classes),
+        WholeRead::Bad => Focused::Refused(CommandError::ParseFailed),
+        WholeRead::TooLarge => Focused::Refused(CommandError::NumberTooLarge),
     }
 }
 
@@ -212,7 +188,7 @@ fn move_range(s: &[u8], g: RangeRead, a: &[u8], classes: &[u8; 256]) -> Focused
             if a.len() == 0 {
                 return Focused::To(FocusChange::End);
             }
-            move_argument(a, whole_range(a, classes), classes)
+            move_argument(a, parse_whole_range(a, classes), classes)
         }
     }
 }

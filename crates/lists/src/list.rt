@@ -15,7 +15,7 @@ ghost use Prim.Native.Nat.{_+_, _^_, _<_};
 ghost use Rattle.scan.specs.Bytes.{Classes};
 ghost use Rattle.store.specs.Sevens.{named};
 ghost use Rattle.store.specs.Splice.{Put, Room};
-ghost use Rattle.lists.specs.Lists.{itemOf as itemFrom, itemAt, textAt, itemsAt, keyless as keylessText};
+ghost use Rattle.lists.specs.Lists.{itemOf as itemFrom, itemAt, textAt, itemsAt, lone as loneOf, keyless as keylessText};
 ghost use Rattle.lists.specs.Listed.{roomFor, passing, listFrom, listOf};
 
 // An item: from its first byte up to the byte past its last, quotes and escapes included.
@@ -68,6 +68,19 @@ fn item_end(s: &[u8], at: usize, classes: &[u8; 256]) -> TextEnd
         return item_of(q, 1, text_end(s, q, true, classes));
     }
     item_of(at, 0, text_end(s, at, false, classes))
+}
+
+// Whether an item is the byte `b` alone.
+pub fn lone(s: &[u8], x: Item, b: u8) -> bool
+    ensures { λ r. ⌜ r ≡ loneOf (now (s .entry)) x b ⌝ }
+{
+    if x.end == 0 {
+        return false;
+    }
+    if x.end - 1 != x.start {
+        return false;
+    }
+    byte_at(s, x.start) == b
 }
 
 // Writes the bytes that the item at `at` stands for from place `to` on, and answers the place after them.

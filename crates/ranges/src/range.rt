@@ -8,7 +8,7 @@ use scan::part::byte_at;
 ghost use mathlib.Core.Path.{_≡_};
 ghost use Prim.Native.Nat.{_+_, _^_, _<_};
 ghost use Rattle.scan.specs.Bytes.{Classes};
-ghost use Rattle.ranges.specs.Range.{escapedAtom, markAtom, signAtom, atomAt, isSign, offsetsAt, withOffsets, endingAt, double as doubleOf, rangeAt};
+ghost use Rattle.ranges.specs.Range.{escapedAtom, markAtom, signAtom, atomAt, isSign, offsetsAt, withOffsets, endingAt, double as doubleOf, rangeAt, wholeOf, wholeRange};
 
 pub enum MoveDir1D {
     Next,
@@ -67,6 +67,13 @@ pub enum RangeSpec {
 pub enum RangeRead {
     Absent,
     Found(RangeSpec, usize),
+    TooLarge,
+}
+
+// A whole text read as a range.
+pub enum WholeRead {
+    Range(RangeSpec),
+    Bad,
     TooLarge,
 }
 
@@ -232,4 +239,28 @@ pub fn parse_range(s: &[u8], at: usize, classes: &[u8; 256]) -> RangeRead
     } else {
         RangeRead::Found(RangeSpec::Single(l), to)
     }
+}
+
+fn whole(n: usize, g: RangeRead) -> WholeRead
+    ensures { λ r. ⌜ r ≡ wholeOf n g ⌝ }
+{
+    match g {
+        RangeRead::Found(x, j) => {
+            if j == n {
+                WholeRead::Range(x)
+            } else {
+                WholeRead::Bad
+            }
+        }
+        RangeRead::Absent => WholeRead::Bad,
+        RangeRead::TooLarge => WholeRead::TooLarge,
+    }
+}
+
+// The range that the whole text is.
+pub fn parse_whole_range(s: &[u8], classes: &[u8; 256]) -> WholeRead
+    requires { ⌜ Classes (now classes) ⌝ }
+    ensures { λ r. ⌜ r ≡ wholeRange (now (s .entry)) ⌝ }
+{
+    whole(s.len(), parse_range(s, 0, classes))
 }

@@ -8,16 +8,16 @@
 use Prim.Native.Nat.{ℕ, zero, suc, _+_}
 use mathlib.Core.Bool.{cond}
 use mathlib.Core.List.{List, [], _∷_, _++_}
-use lib.Dec.{eqb, leb}
+use lib.Dec.{leb}
 use lib.ListN.{length, drop}
 use Rattle.scan.specs.Utf8.{isUtf8}
-use Rattle.ranges.specs.Range.{rangeAt}
+use Rattle.ranges.specs.Range.{wholeRange}
 use Rattle.lists.specs.Lists.{Items, itemsOf, textAt, Filename, filenameOf, Option, optionOf, anyKeyless}
 use Rattle.lists.specs.declared.list.Item.{Item}
 use Rattle.ranges.specs.declared.range.RangeSpec.{RangeSpec}
-use Rattle.ranges.specs.declared.range.RangeRead.{RangeRead}
+use Rattle.ranges.specs.declared.range.WholeRead.{WholeRead}
 use Rattle.reading.specs.declared.alone.Refusal.{Refusal}
-use Rattle.reading.specs.declared.alone.OpenTarget.{OpenTarget}
+use Rattle.reading.specs.declared.alone.FilenameType.{FilenameType}
 use Rattle.reading.specs.declared.alone.FilenamesReply.{FilenamesReply}
 use Rattle.reading.specs.declared.alone.StringsReply.{StringsReply}
 use Rattle.reading.specs.declared.alone.OptionsReply.{OptionsReply}
@@ -70,15 +70,15 @@ unfoldable pub optionsAlone : List ℕ → ℕ → ℕ → Answer Option
 optionsAlone text place size = checked Answer.refused text size (optionsAnswer text place (itemsOf text))
 
 -- the whole text must be a range
-unfoldable pub rangeAnswer : ℕ → RangeRead → Ranged
-rangeAnswer n RangeRead.Absent = Ranged.refused 3
-rangeAnswer n (RangeRead.Found g j) = cond (eqb j n) (Ranged.range g) (Ranged.refused 3)
-rangeAnswer n RangeRead.TooLarge = Ranged.refused 4
+unfoldable pub rangeAnswer : WholeRead → Ranged
+rangeAnswer (WholeRead.Range g) = Ranged.range g
+rangeAnswer WholeRead.Bad = Ranged.refused 3
+rangeAnswer WholeRead.TooLarge = Ranged.refused 4
 
 -- there is no store, so 12 is not checked
 unfoldable pub rangeAlone : List ℕ → Ranged
 rangeAlone text =
-    cond (leb (length text) 1024) (cond (isUtf8 text) (rangeAnswer (length text) (rangeAt text 0)) (Ranged.refused 2)) (Ranged.refused 1)
+    cond (leb (length text) 1024) (cond (isUtf8 text) (rangeAnswer (wholeRange text)) (Ranged.refused 2)) (Ranged.refused 1)
 
 -- what stands in the store afterwards -------------------------------------------------------------------------------------------------
 
@@ -113,12 +113,12 @@ told f (Answer.refused n) = Answer.refused n
 told f (Answer.beyond n) = Answer.beyond n
 told f (Answer.item n x) = Answer.item n (f x)
 
-unfoldable pub filenameSeen : Filename → OpenTarget
-filenameSeen Filename.alternate = OpenTarget.Alternate
-filenameSeen Filename.current = OpenTarget.Current
-filenameSeen (Filename.name t) = OpenTarget.Name (length t)
+unfoldable pub filenameSeen : Filename → FilenameType
+filenameSeen Filename.alternate = FilenameType.Alternate
+filenameSeen Filename.current = FilenameType.Current
+filenameSeen (Filename.name t) = FilenameType.Name (length t)
 
-unfoldable pub filenamesTold : FilenamesReply → Answer OpenTarget
+unfoldable pub filenamesTold : FilenamesReply → Answer FilenameType
 filenamesTold (FilenamesReply.Refused x) = Answer.refused (refusalNo x)
 filenamesTold (FilenamesReply.Beyond n) = Answer.beyond n
 filenamesTold (FilenamesReply.Item n t) = Answer.item n t

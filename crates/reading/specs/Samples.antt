@@ -10,7 +10,7 @@ use Rattle.scan.specs.Ascii.{ascii}
 use Rattle.scan.specs.Bytes.{isSpace, isColon, isDigit, isWord, isMark, isText, isPlain, isQuoted}
 use Rattle.scan.specs.Scan.{runFrom, runAt, valueFrom, digitsFrom, digitsAt, partOf}
 use Rattle.scan.specs.Utf8.{isUtf8, utf8At, utf8From, utf8Step, followers, lowest, highest}
-use Rattle.ranges.specs.Range.{isSign, escapedAtom, markAtom, signAtom, numberOr, atomAt, offsetsFrom, offsetsAt, withOffsets, afterAtom, endingAt, double, afterFirst, rangeAt}
+use Rattle.ranges.specs.Range.{isSign, escapedAtom, markAtom, signAtom, numberOr, atomAt, offsetsFrom, offsetsAt, withOffsets, afterAtom, endingAt, double, afterFirst, rangeAt, wholeOf, wholeRange}
 use Rattle.lists.specs.Text.{quotedEscape, plainEscape, escapeOf, own, stopAt, textEndFrom, textEndAt, bytesFrom, bytesAt}
 use Rattle.lists.specs.Lists.{itemOf, itemAt, textAt, also, itemsFrom, itemsAt, itemsOf, Filename, lone, filenameOf, Option, keyOf, afterKey, plusPlus, flagOf, optionOf, isEmpty, keyless, anyKeyless}
 use Rattle.reading.specs.Line.{skipByte, wordAt, restAt, afterWord, afterRange, startOf, readingOf}
@@ -91,7 +91,7 @@ numbers = (refl, refl, refl, refl, refl, refl, refl, refl)
 -- ranges ----------------------------------------------------------------------------------------------------------------------------
 
 ranged : String → Ranged
-unfolding isDigit isMark runFrom runAt valueFrom digitsFrom digitsAt isSign escapedAtom markAtom signAtom numberOr atomAt offsetsFrom offsetsAt withOffsets afterAtom endingAt double afterFirst rangeAt rangeAnswer rangeAlone isUtf8 utf8At utf8From utf8Step followers lowest highest
+unfolding isDigit isMark runFrom runAt valueFrom digitsFrom digitsAt isSign escapedAtom markAtom signAtom numberOr atomAt offsetsFrom offsetsAt withOffsets afterAtom endingAt double afterFirst rangeAt wholeOf wholeRange rangeAnswer rangeAlone isUtf8 utf8At utf8From utf8Step followers lowest highest
 ranged t = rangeAlone (ascii t)
 
 abbrev end : RangeEndingType → ℕ → ℕ → RangeEnding

@@ -3,14 +3,14 @@ use lists::list::Item;
 use lists::list::ListRead;
 use lists::list::Picked;
 use lists::list::copy_item;
+use lists::list::lone;
 use lists::list::parse_list;
 use lists::option::OptionType;
 use lists::option::copy_option;
-use ranges::range::RangeRead;
 use ranges::range::RangeSpec;
-use ranges::range::parse_range;
+use ranges::range::WholeRead;
+use ranges::range::parse_whole_range;
 use scan::classes::classes;
-use scan::part::byte_at;
 use scan::utf8::is_utf8;
 ghost use mathlib.Core.Path.{_≡_};
 ghost use Prim.Native.Nat.{_≤_};
@@ -18,7 +18,7 @@ ghost use lib.ListN.{length};
 ghost use lib.Seq.{sets};
 ghost use Rattle.scan.specs.Bytes.{Classes};
 ghost use Rattle.store.specs.Splice.{Room};
-ghost use Rattle.lists.specs.Lists.{textAt, itemsOf, filenameOf, lone as loneOf};
+ghost use Rattle.lists.specs.Lists.{textAt, itemsOf, filenameOf};
 ghost use Rattle.lists.specs.Listed.{optionSeen, optionBytes};
 ghost use Rattle.reading.specs.Alone.{listAnswer, optionsAnswer, rangeAnswer, filenamesAlone, stringsAlone, optionsAlone, rangeAlone};
 ghost use Rattle.reading.specs.Alone.{filenamesTold, stringsTold, optionsTold, rangeTold, told, filenameSeen, filenameBytes, writtenBy, atFront};
@@ -35,7 +35,7 @@ pub enum Refusal {
 }
 
 // A file name: a lone `#`, a lone `%`, or a name of so many bytes.
-pub enum OpenTarget {
+pub enum FilenameType {
     Alternate,
     Current,
     Name(usize),
@@ -45,7 +45,7 @@ pub enum OpenTarget {
 pub enum FilenamesReply {
     Refused(Refusal),
     Beyond(usize),
-    Item(usize, OpenTarget),
+    Item(usize, FilenameType),
 }
 
 pub enum StringsReply {
@@ -88,33 +88,20 @@ fn check(text: &[u8], size: usize) -> Checked
     Checked::Bad(Refusal::NotUtf8)
 }
 
-// Whether an item is the byte `b` alone.
-fn lone(s: &[u8], x: Item, b: u8) -> bool
-    ensures { λ r. ⌜ r ≡ loneOf (now (s .entry)) x b ⌝ }
-{
-    if x.end == 0 {
-        return false;
-    }
-    if x.end - 1 != x.start {
-        return false;
-    }
-    byte_at(s, x.start) == b
-}
-
 // The file name that an item is: a name goes to the front of the store.
-fn filename(s: &[u8], x: Item, classes: &[u8; 256], store: &mut [u8]) -> OpenTarget
+fn filename(s: &[u8], x: Item, classes: &[u8; 256], store: &mut [u8]) -> FilenameType
     requires { ⌜ Classes (now classes) ⌝ }
     requires { ⌜ Room (now store) 0 (textAt (now s) (x .start)) ⌝ }
     ensures kind { λ r. ⌜ r ≡ filenameSeen (filenameOf (now (s .entry)) x) ⌝ }
     ensures written { λ r. ⌜ now (store .exit) ≡ sets (now (store .entry)) 0 (filenameBytes (filenameOf (now (s .entry)) x)) ⌝ }
 {
     if lone(s, x, 0x23) {
-        return OpenTarget::Alternate;
+        return FilenameType::Alternate;
     }
     if lone(s, x, 0x25) {
-        return OpenTarget::Current;
+        return FilenameType::Current;
     }
-    OpenTarget::Name(copy_item(s, x.start, classes, store, 0))
+    FilenameType::Name(copy_item(s, x.start, classes, store, 0))
 }
 
 fn filenames_in(text: &[u8], place: usize, store: &mut [u8]) -> FilenamesReply
@@ -216,19 +203,13 @@ pub fn options(text: &[u8], place: usize, store: &mut [u8]) -> OptionsReply
     }
 }
 
-fn whole_range(n: usize, r: RangeRead) -> RangeReply
-    ensures { λ a. ⌜ rangeTold a ≡ rangeAnswer n r ⌝ }
+fn range_reply(w: WholeRead) -> RangeReply
+    ensures { λ a. ⌜ rangeTold a ≡ rangeAnswer w ⌝ }
 {
-    match r {
-        RangeRead::Found(g, j) => {
-            if j == n {
-                RangeReply::Range(g)
-            } else {
-                RangeReply::Refused(Refusal::ParseFailed)
-            }
-        }
-        RangeRead::Absent => RangeReply::Refused(Refusal::ParseFailed),
-        RangeRead::TooLarge => RangeReply::Refused(Refusal::NumberTooLarge),
+    match w {
+        WholeRead::Range(g) => RangeReply::Range(g),
+        WholeRead::Bad => RangeReply::Refused(Refusal::ParseFailed),
+        WholeRead::TooLarge => RangeReply::Refused(Refusal::NumberTooLarge),
     }
 }
 
@@ -236,13 +217,12 @@ fn whole_range(n: usize, r: RangeRead) -> RangeReply
 pub fn range(text: &[u8]) -> RangeReply
     ensures { λ r. ⌜ rangeTold r ≡ rangeAlone (now (text .entry)) ⌝ }
 {
-    let n = text.len();
-    if 1024 < n {
+    if 1024 < text.len() {
         return RangeReply::Refused(Refusal::LineTooLong);
     }
     if is_utf8(text) {
         let classes = classes();
-        return whole_range(n, parse_range(text, 0, &classes));
+        return range_reply(parse_whole_range(text, &classes));
     }
     RangeReply::Refused(Refusal::NotUtf8)
 }

@@ -10,8 +10,8 @@ use ranges::range::RangeEndingType;
 use ranges::range::RangeRead;
 use ranges::range::RangeSearchInit;
 use ranges::range::RangeSpec;
+use reading::alone::FilenameType;
 use reading::alone::FilenamesReply;
-use reading::alone::OpenTarget;
 use reading::alone::OptionsReply;
 use reading::alone::RangeReply;
 use reading::alone::Refusal;
@@ -212,11 +212,11 @@ struct ItemTurn {
     more: bool,
 }
 
-fn put_filename(out: &mut [u8], n: usize, t: OpenTarget, store: &[u8]) -> usize {
+fn put_filename(out: &mut [u8], n: usize, t: FilenameType, store: &[u8]) -> usize {
     match t {
-        OpenTarget::Alternate => vectors::put_number(out, n, 0),
-        OpenTarget::Current => vectors::put_number(out, n, 1),
-        OpenTarget::Name(m) => {
+        FilenameType::Alternate => vectors::put_number(out, n, 0),
+        FilenameType::Current => vectors::put_number(out, n, 1),
+        FilenameType::Name(m) => {
             let k = vectors::put_number(out, n, 2);
             vectors::put_name(out, k, part(store, 0, m))
         }

@@ -22,8 +22,8 @@ returns : tie.Need-returns
 unfolding moveRange
 returns c = rw (c .before .enum-told2 .given .1, eq-eqb _ _ (c .if1 .taken))
 
-whole-range-requires : tie.Need-whole-range-requires
-whole-range-requires c κs = search needs
+parse-whole-range-requires : tie.Need-parse-whole-range-requires
+parse-whole-range-requires c κs = search needs
 
 move-argument-requires : tie.Need-move-argument-requires
 move-argument-requires c κs = search needs
@@ -38,7 +38,7 @@ returns-3 c = rw (c .enum-told .given .1)
 
 returns-4 : tie.Need-returns-4
 unfolding moveRange
-returns-4 c = rw (c .move-argument .ensures, c .before .whole-range .ensures, c .before .before .before .enum-told2 .given .1, ne-eqb _ _ (c .before .before .if1 .left))
+returns-4 c = rw (c .move-argument .ensures, c .before .parse-whole-range .ensures, c .before .before .before .enum-told2 .given .1, ne-eqb _ _ (c .before .before .if1 .left))
 
 pub move-range-spec : {M : Type 1} → statement M
 move-range-spec =
@@ -49,7 +49,7 @@ move-range-spec =
     enum-told
     enum-told-2
     returns
-    whole-range-requires
+    parse-whole-range-requires
     move-argument-requires
     returns-2
     returns-3

@@ -19,8 +19,8 @@ enum-told c = search needs
 enum-told-2 : tie.Need-enum-told-2
 enum-told-2 c = search needs
 
-whole-range-requires : tie.Need-whole-range-requires
-whole-range-requires c κs = search needs
+parse-whole-range-requires : tie.Need-parse-whole-range-requires
+parse-whole-range-requires c κs = search needs
 
 argued-requires : tie.Need-argued-requires
 argued-requires c κs = search needs
@@ -34,7 +34,7 @@ returns-2 c = rw (c .enum-told .given .1, ne-eqb _ _ (c .before .before .if1 .le
 
 returns-3 : tie.Need-returns-3
 unfolding tabRange either
-returns-3 c = rw (c .argued .ensures, c .before .whole-range .ensures, c .before .before .enum-told2 .given .1, ne-eqb _ _ (c .before .before .before .before .if1 .left))
+returns-3 c = rw (c .argued .ensures, c .before .parse-whole-range .ensures, c .before .before .enum-told2 .given .1, ne-eqb _ _ (c .before .before .before .before .if1 .left))
 
 returns-4 : tie.Need-returns-4
 unfolding tabRange either
@@ -48,7 +48,7 @@ tab-range-spec =
     returns
     enum-told
     enum-told-2
-    whole-range-requires
+    parse-whole-range-requires
     argued-requires
     enum-told-3
     returns-2

@@ -17,15 +17,15 @@ is-utf8-requires c κs = search needs
 classes-requires : tie.Need-classes-requires
 classes-requires c κs = search needs
 
-parse-range-requires : tie.Need-parse-range-requires
-parse-range-requires c κs = search needs
+parse-whole-range-requires : tie.Need-parse-whole-range-requires
+parse-whole-range-requires c κs = search needs
 
-whole-range-requires : tie.Need-whole-range-requires
-whole-range-requires c κs = search needs
+range-reply-requires : tie.Need-range-reply-requires
+range-reply-requires c κs = search needs
 
 returns-2 : tie.Need-returns-2
 unfolding rangeTold rangeAlone refusalNo
-returns-2 c = rw (le-leb _ _ (c .before .before .before .before .before .before .if1 .left), sym (c .before .before .before .before .before .is-utf8 .ensures) ∙ c .before .before .before .before .if2 .taken, ← c .before .parse-range .ensures) (c .whole-range .ensures)
+returns-2 c = rw (le-leb _ _ (c .before .before .before .before .before .before .if1 .left), sym (c .before .before .before .before .before .is-utf8 .ensures) ∙ c .before .before .before .before .if2 .taken, ← c .before .parse-whole-range .ensures) (c .range-reply .ensures)
 
 returns-3 : tie.Need-returns-3
 unfolding rangeTold rangeAlone refusalNo
@@ -38,7 +38,7 @@ range-spec =
     returns
     is-utf8-requires
     classes-requires
-    parse-range-requires
-    whole-range-requires
+    parse-whole-range-requires
+    range-reply-requires
     returns-2
     returns-3)

@@ -1,12 +1,12 @@
--- `alone::lone` meets its contract.
+-- `list::lone` meets its contract.
 -- Assumes nothing.
 use Prim.Native.Nat.{_+_}
 use native.Mathlib.Omega.{arith}
 use borrow.Author.Tests.{eq-eqb, ne-eqb}
 use Rattle.lists.specs.Lists.{lone}
 use borrow.Author.Needs.{needs}
-use Rattle.reading.proofs.alone.lone.Statement.{statement}
-use Rattle.reading.proofs.alone.lone.Tie as tie
+use Rattle.lists.proofs.list.lone.Statement.{statement}
+use Rattle.lists.proofs.list.lone.Tie as tie
 
 returns : tie.Need-returns
 unfolding lone
