@@ -6,7 +6,6 @@ use mathlib.Core.List.{List}
 use Prim.Native.Nat.{ℕ}
 use lib.Dec.{eqb}
 use lib.ListN.{length}
-use Rattle.scan.specs.Scan.{partOf}
 use Rattle.ranges.specs.Range.{wholeRange}
 use Rattle.ranges.specs.declared.range.MoveDir1D.{MoveDir1D}
 use Rattle.ranges.specs.declared.range.RangeEndingType.{RangeEndingType}
@@ -20,13 +19,10 @@ use Rattle.actions.specs.declared.action.TabAction.{TabAction}
 use Rattle.focus.specs.Focus.{rangeFocus}
 use Rattle.focus.specs.declared.focus.CommandError.{CommandError}
 use Rattle.focus.specs.declared.focus.Focused.{Focused}
+use Rattle.reading.specs.Line.{argumentOf}
 use Rattle.reading.specs.declared.line.CommandDescription.{CommandDescription}
 use Rattle.handlers.specs.declared.done.Done.{Done}
 use Rattle.handlers.specs.declared.tabs.TabRange.{TabRange}
-
--- the argument of a reading
-abbrev pub argumentOf : List ℕ → CommandDescription → List ℕ
-argumentOf s d = partOf s (d .argument) (d .stop)
 
 -- the range before the word, where there is no argument
 unfoldable pub unargued : RangeRead → TabRange

@@ -1,0 +1,2 @@
+pub mod Handle
+pub mod Run

@@ -1,0 +1,5 @@
+pub mod One
+pub mod OneLaws
+pub mod Open
+pub mod Resize
+pub mod Write
