@@ -1,2 +1,3 @@
 pub mod Handle
 pub mod Run
+pub mod Line
