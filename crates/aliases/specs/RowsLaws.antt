@@ -1,0 +1,132 @@
+-- Laws of rows in bytes, over positions, and of lookup in two tables one after the other.
+-- Assumes nothing.
+use mathlib.Core.Path.{_≡_, refl, sym, _∙_, ap}
+use mathlib.Core.Bool.{Bool, true, false, _&&_}
+use mathlib.Core.List.{List, [], _∷_, _++_}
+use Prim.Native.Nat.{ℕ, zero, suc, _+_, _-_, _<_, _≤_}
+use native.Mathlib.Omega.{arith}
+use lib.ListN.{length, take, drop, getD, drop-of-length-le}
+use lib.Seq.{drop-drop, getD-drop}
+use lib.Dec.{eqb}
+use borrow.Author.Tests.{eq-eqb, ne-eqb}
+use Rattle.scan.specs.Scan.{byteAt, partOf}
+use Rattle.scan.specs.RunLaws.{drop-step}
+use Rattle.words.specs.Words.{Row, same, lookupIn}
+use Rattle.words.specs.declared.words.Named.{Named}
+use Rattle.aliases.specs.Rows.{rowsFrom, rowsOf}
+
+-- rows ----------------------------------------------------------------------------------------------------------------------------------
+
+-- k bytes passed are k bytes dropped
+rows-skip : (k : ℕ) (xs : List ℕ) → rowsFrom k xs ≡ rowsFrom 0 (drop k xs)
+unfolding rowsFrom
+rows-skip zero xs = refl
+rows-skip (suc k) [] = refl
+rows-skip (suc k) (b ∷ bs) = rows-skip k bs
+
+rows-cons : (n : ℕ) (bs : List ℕ) → rowsFrom 0 (n ∷ bs) ≡ record { word = take n (drop 1 bs); command = getD bs 0 0 } ∷ rowsFrom (n + 1) bs
+unfolding rowsFrom
+rows-cons n bs = refl
+
+-- the rows from position i on
+unfoldable pub rowsAt : List ℕ → ℕ → List Row
+rowsAt s i = rowsFrom 0 (drop i s)
+
+pub rows-start : (s : List ℕ) → rowsOf s ≡ rowsAt s 0
+unfolding rowsOf rowsAt
+rows-start s = refl
+
+rows-end : (s : List ℕ) (i : ℕ) → length s ≤ i → rowsAt s i ≡ []
+unfolding rowsAt rowsFrom
+rows-end s i h = rw (drop-of-length-le s h)
+
+-- a row and those behind it
+rows-step : (s : List ℕ) (i : ℕ) → i < length s → rowsAt s i ≡ record { word = partOf s (i + 2) (i + 2 + byteAt s i); command = byteAt s (i + 1) } ∷ rowsAt s (i + 2 + byteAt s i)
+unfolding rowsAt
+rows-step s i h = ap (rowsFrom 0) (drop-step s i h) ∙ go (byteAt s i)
+  where
+    go : (n : ℕ) → rowsFrom 0 (n ∷ drop (i + 1) s) ≡ record { word = partOf s (i + 2) (i + 2 + n); command = byteAt s (i + 1) } ∷ rowsFrom 0 (drop (i + 2 + n) s)
+    go n =
+        let word : take n (drop 1 (drop (i + 1) s)) ≡ partOf s (i + 2) (i + 2 + n) =
+        let e : n ≡ i + 2 + n - (i + 2) = omega arith in
+        let f : i + 1 + 1 ≡ i + 2 = omega arith in
+        ap (take n) (drop-drop 1 (i + 1) s ∙ ap (λ (k : ℕ). drop k s) f) ∙ ap (λ (k : ℕ). take k (drop (i + 2) s)) e in
+        let command : getD (drop (i + 1) s) 0 0 ≡ byteAt s (i + 1) =
+        let e : i + 1 + 0 ≡ i + 1 = omega arith in
+        getD-drop (i + 1) s 0 0 ∙ ap (λ (k : ℕ). getD s k 0) e in
+        let rest : rowsFrom (n + 1) (drop (i + 1) s) ≡ rowsFrom 0 (drop (i + 2 + n) s) =
+        let e : i + 1 + (n + 1) ≡ i + 2 + n = omega arith in
+        rows-skip (n + 1) (drop (i + 1) s) ∙ ap (rowsFrom 0) (drop-drop (n + 1) (i + 1) s ∙ ap (λ (k : ℕ). drop k s) e) in
+        rows-cons n (drop (i + 1) s) ∙ rw (word, command, rest)
+
+-- lookup --------------------------------------------------------------------------------------------------------------------------------
+
+lookup-here : (r : Row) (rs : List Row) (w : List ℕ) → same w (r .word) ≡ true → lookupIn (r ∷ rs) w ≡ Named.Command (r .command)
+unfolding lookupIn
+lookup-here r rs w h = rw (lookupIn, h)
+
+lookup-past : (r : Row) (rs : List Row) (w : List ℕ) → same w (r .word) ≡ false → lookupIn (r ∷ rs) w ≡ lookupIn rs w
+unfolding lookupIn
+lookup-past r rs w h = rw (lookupIn, h)
+
+-- two tables: a word of the first, or else what the second says
+abbrev pub orElse : Named → Named → Named
+orElse (Named.Command n) m = Named.Command n
+orElse Named.Unknown m = m
+
+pub lookup-append : (rs ts : List Row) (w : List ℕ) → lookupIn (rs ++ ts) w ≡ orElse (lookupIn rs w) (lookupIn ts w)
+unfolding lookupIn
+lookup-append [] ts w = refl
+lookup-append (r ∷ rs) ts w = go (same w (r .word)) refl (lookup-append rs ts w)
+  where
+    go : (b : Bool) → same w (r .word) ≡ b → lookupIn (rs ++ ts) w ≡ orElse (lookupIn rs w) (lookupIn ts w) → lookupIn (r ∷ (rs ++ ts)) w ≡ orElse (lookupIn (r ∷ rs) w) (lookupIn ts w)
+    go true e ih = lookup-here r (rs ++ ts) w e ∙ rw (lookup-here r rs w e)
+    go false e ih = lookup-past r (rs ++ ts) w e ∙ ih ∙ rw (lookup-past r rs w e)
+
+-- words -----------------------------------------------------------------------------------------------------------------------------------
+
+-- words of two lengths are not the same
+pub same-lengths : (v w : List ℕ) → (length v ≡ length w → ⊥) → same v w ≡ false
+unfolding same
+same-lengths [] [] h = absurd (h refl)
+same-lengths [] (y ∷ w) h = refl
+same-lengths (x ∷ v) [] h = refl
+same-lengths (x ∷ v) (y ∷ w) h = go (eqb x y) (same-lengths v w (λ e. h (ap suc e)))
+  where
+    go : (b : Bool) → same v w ≡ false → (b && same v w) ≡ false
+    go true e = e
+    go false e = refl
+
+-- from position i on
+unfoldable pub sameAt : List ℕ → List ℕ → ℕ → Bool
+sameAt v w i = same (drop i v) (drop i w)
+
+pub same-start : (v w : List ℕ) → same v w ≡ sameAt v w 0
+unfolding sameAt
+same-start v w = refl
+
+module _ (v w : List ℕ) (i : ℕ) where
+  pub same-end : length v ≤ i → length w ≤ i → sameAt v w i ≡ true
+  unfolding sameAt same
+  same-end h k = rw (drop-of-length-le v h, drop-of-length-le w k)
+
+  pub same-on : i < length v → i < length w → byteAt v i ≡ byteAt w i → sameAt v w i ≡ sameAt v w (i + 1)
+  unfolding sameAt same
+  same-on h k e = rw (drop-step v i h, drop-step w i k, eq-eqb (byteAt v i) (byteAt w i) e)
+
+  pub same-off : i < length v → i < length w → (byteAt v i ≡ byteAt w i → ⊥) → sameAt v w i ≡ false
+  unfolding sameAt same
+  same-off h k e = rw (drop-step v i h, drop-step w i k, ne-eqb (byteAt v i) (byteAt w i) e)
+
+-- lookup from position i on -----------------------------------------------------------------------------------------------------------------
+
+module _ (s w : List ℕ) (i : ℕ) where
+  pub find-here : i < length s → same w (partOf s (i + 2) (i + 2 + byteAt s i)) ≡ true → lookupIn (rowsAt s i) w ≡ Named.Command (byteAt s (i + 1))
+  find-here h e = ap (λ rs. lookupIn rs w) (rows-step s i h) ∙ lookup-here _ _ w e
+
+  pub find-past : i < length s → same w (partOf s (i + 2) (i + 2 + byteAt s i)) ≡ false → lookupIn (rowsAt s i) w ≡ lookupIn (rowsAt s (i + 2 + byteAt s i)) w
+  find-past h e = ap (λ rs. lookupIn rs w) (rows-step s i h) ∙ lookup-past _ _ w e
+
+  pub find-end : length s ≤ i → lookupIn (rowsAt s i) w ≡ Named.Unknown
+  unfolding lookupIn
+  find-end h = ap (λ rs. lookupIn rs w) (rows-end s i h)
