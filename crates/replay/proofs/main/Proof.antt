@@ -1,8 +1,8 @@
--- `replay_reading::main` is safe and ends.
+-- `replay::main` is safe and ends.
 -- Assumes nothing.
 use borrow.Author.Needs.{needs}
-use Rattle.replay_reading.proofs.main.Statement.{statement}
-use Rattle.replay_reading.proofs.main.Tie as tie
+use Rattle.replay.proofs.main.Statement.{statement}
+use Rattle.replay.proofs.main.Tie as tie
 
 abbrev Inv-loop : tie.InvT-loop
 Inv-loop turns₀ t₀ turns t = Unit {0}

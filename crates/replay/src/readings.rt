@@ -1,8 +1,5 @@
-// Replays the oracle's vectors for ranges, lists and readings (ops 3 to 7) through the public functions of `reading`,
-// and prints how many agree. An answer is built as the oracle writes it, byte for byte.
-mod vectors;
-
-use libc::STDIN_FILENO;
+// What the public functions of `reading` answer to ranges, lists and readings (ops 3 to 7), as the oracle writes it.
+use super::vectors;
 use lists::option::OptionType;
 use ranges::range::MoveDir1D;
 use ranges::range::RangeEnding;
@@ -19,8 +16,6 @@ use reading::alone::StringsReply;
 use reading::line::CommandDescription;
 use reading::line::CommandRead;
 use scan::part::part;
-use vectors::Frame;
-use vectors::Tally;
 
 // The number that document 01 gives a refusal.
 fn refusal_number(x: Refusal) -> u64 {
@@ -363,7 +358,7 @@ fn answer_reading(text: &[u8], out: &mut [u8]) -> usize {
     }
 }
 
-fn answer(op: u8, text: &[u8], out: &mut [u8]) -> usize {
+pub fn answer(op: u8, text: &[u8], out: &mut [u8]) -> usize {
     if op == 3 {
         return answer_range(text, out);
     }
@@ -371,33 +366,4 @@ fn answer(op: u8, text: &[u8], out: &mut [u8]) -> usize {
         return answer_reading(text, out);
     }
     answer_list(op, text, out)
-}
-
-fn agrees(op: u8, text: &[u8], want: &[u8]) -> bool {
-    let mut out = [0u8; 4096];
-    let n = answer(op, text, &mut out);
-    check::same(part(&out, 0, n), want)
-}
-
-fn turn(t: Tally) -> Tally {
-    let mut text = [0u8; 1024];
-    let mut want = [0u8; 4096];
-    match vectors::next_vector(STDIN_FILENO, &mut text, &mut want) {
-        Frame::End => vectors::finished(t),
-        Frame::Broken => vectors::broken(t),
-        Frame::Vector(op, n, m) => vectors::counted(
-            t,
-            agrees(op, part(&text, 0, n), part(&want, 0, m)),
-        ),
-    }
-}
-
-// A proved loop has to end, so it counts its turns down from a number that no run uses up.
-fn main() {
-    let mut turns = u64::MAX;
-    let mut t = vectors::start();
-    while turns > 0 && t.more {
-        t = turn(t);
-        turns -= 1;
-    }
 }

@@ -1,0 +1,68 @@
+-- `run::decide` meets its contract.
+-- Assumes nothing.
+use mathlib.Core.Path.{sym, _∙_}
+use borrow.Author.Tests.{eq-eqb, ne-eqb}
+use Rattle.commands.specs.Run.{decide as decideOf, byReading}
+use borrow.Author.Needs.{needs}
+use Rattle.run.proofs.run.decide.Statement.{statement}
+use Rattle.run.proofs.run.decide.Tie as tie
+
+parse-cmd-descr-requires : tie.Need-parse-cmd-descr-requires
+parse-cmd-descr-requires c κs = search needs
+
+enum-known-d : tie.Need-enum-known-d
+enum-known-d c = search needs
+
+returns : tie.Need-returns
+unfolding decideOf byReading
+returns c = rw (sym (c .before .before .before .before .parse-cmd-descr .ensures) ∙ c .before .before .d .given .1, eq-eqb _ _ (c .if1 .taken))
+
+part-requires : tie.Need-part-requires
+part-requires c κs = search needs
+
+lookup-in-requires : tie.Need-lookup-in-requires
+lookup-in-requires c κs = search needs
+
+by-name-requires : tie.Need-by-name-requires
+by-name-requires c κs = search needs
+
+enum-told : tie.Need-enum-told
+enum-told c = search needs
+
+enum-told-2 : tie.Need-enum-told-2
+enum-told-2 c = search needs
+
+returns-2 : tie.Need-returns-2
+unfolding decideOf byReading
+returns-2 c =
+    rw (
+      c .by-name .ensures,
+      c .before .lookup-in .ensures,
+      c .before .before .part .ensures,
+      sym (c .before .before .before .before .before .before .before .parse-cmd-descr .ensures) ∙ c .before .before .before .before .before .d .given .1,
+      ne-eqb _ _ (c .before .before .before .if1 .left),
+    )
+
+returns-3 : tie.Need-returns-3
+unfolding decideOf byReading
+returns-3 c = rw (sym (c .before .before .parse-cmd-descr .ensures) ∙ c .enum-told .given .1)
+
+returns-4 : tie.Need-returns-4
+unfolding decideOf byReading
+returns-4 c = rw (sym (c .before .before .parse-cmd-descr .ensures) ∙ c .enum-told2 .given .1)
+
+pub decide-spec : {M : Type 1} → statement M
+decide-spec =
+    tie.close
+    (tie.spec
+    parse-cmd-descr-requires
+    enum-known-d
+    returns
+    part-requires
+    lookup-in-requires
+    by-name-requires
+    enum-told
+    enum-told-2
+    returns-2
+    returns-3
+    returns-4)
