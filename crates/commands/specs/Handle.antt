@@ -27,6 +27,13 @@ roleOf n =
     (cond (eqb n 26) (Role.Side Side.Previous)
     (cond (eqb n 27) (Role.Side Side.Next) Role.Action))))
 
+-- a prefix: it sets something, and its argument is read next
+abbrev pub IsPrefix : Role → Type 0
+IsPrefix Role.Tab = Unit {0}
+IsPrefix (Role.Axis a) = Unit {0}
+IsPrefix (Role.Side d) = Unit {0}
+IsPrefix Role.Action = ⊥
+
 -- what each of the other commands does with a reading d of the text s, in the context x
 unfoldable pub handleOf : ℕ → List ℕ → CommandDescription → CommandContext → Done
 handleOf n s d x =

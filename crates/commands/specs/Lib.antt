@@ -1,3 +1,5 @@
 pub mod Handle
 pub mod Run
 pub mod Line
+pub mod RunLaws
+pub mod TurnLaws

@@ -1,4 +1,4 @@
--- Laws of runs of bytes: one byte at a time, for a loop; bounds; what stands behind a run; a run from a later place.
+-- Laws of runs of bytes: one byte at a time, for a loop; bounds; what stands behind a run; a run from a later place, and a part of it.
 -- Each holds of every test on bytes. Assumes nothing.
 use mathlib.Core.Path.{_≡_, refl, _∙_, sym, ap}
 use mathlib.Core.Bool.{Bool, true, false, _&&_, false≢true}
@@ -7,9 +7,9 @@ use Prim.Native.Nat.{ℕ, zero, suc, _+_, _-_, _<_, _≤_}
 use native.Mathlib.Numerals.{add-one}
 use native.Mathlib.Omega.{arith}
 use native.Mathlib.Decide.{decLt}
-use lib.ListN.{length, getD, drop, drop-of-length-le, length-drop, List·getD-eq-default}
+use lib.ListN.{length, getD, take, drop, drop-of-length-le, length-drop, List·getD-eq-default}
 use lib.Seq.{drop-cons, getD-drop, drop-append-le}
-use Rattle.scan.specs.Scan.{runFrom, runAt}
+use Rattle.scan.specs.Scan.{partOf, runFrom, runAt}
 use Rattle.scan.specs.declared.run.RunStart.{RunStart}
 
 -- a conjunction of tests
@@ -224,3 +224,26 @@ module _ (p : ℕ → Bool) where
   runAt-later s a e q h =
       let w : 0 + a ≡ a = omega arith in
       q ∙ sym (run-drop s 0 a (omega arith)) ∙ ap (λ (n : ℕ). runFrom p n (drop a s)) w
+
+  -- what is cut out of a run is a run throughout
+  run-take : (xs : List ℕ) (i k : ℕ) → i + k ≤ runFrom p i xs → runFrom p i (take k xs) ≡ i + k
+  unfolding runFrom
+  run-take xs i zero h = omega arith
+  run-take [] i (suc k) h = absurd (omega arith)
+  run-take (b ∷ bs) i (suc k) h = go (p b) refl (run-take bs (i + 1) k)
+    where
+      go : (t : Bool) → p b ≡ t → (i + 1 + k ≤ runFrom p (i + 1) bs → runFrom p (i + 1) (take k bs) ≡ i + 1 + k) → runFrom p i (b ∷ take k bs) ≡ i + suc k
+      go true e f =
+          let q : runFrom p i (b ∷ bs) ≡ runFrom p (i + 1) bs = run-yes p i b bs e in
+          let w : i + 1 + k ≡ i + suc k = omega arith in
+          run-yes p i b (take k bs) e ∙ f (omega arith) ∙ w
+      go false e f =
+          let q : runFrom p i (b ∷ bs) ≡ i = run-no p i b bs e in
+          absurd (omega arith)
+
+  pub run-part : (s : List ℕ) (a e : ℕ) → runAt p s a ≡ e → a ≤ e → e - a ≡ runAt p (partOf s a e) 0
+  unfolding runAt
+  run-part s a e q h =
+      let w : a + 0 ≡ a = omega arith in
+      let z : runFrom p (a + 0) (partOf s a e) ≡ runFrom p a (partOf s a e) = ap (λ (n : ℕ). runFrom p n (partOf s a e)) w in
+      omega (arith, run-take (drop a s) a (e - a) (omega arith), run-shift p a (partOf s a e) 0)
