@@ -11,7 +11,7 @@ use scan::run::skip_spaces;
 use store::put_number;
 ghost use mathlib.Core.Path.{_≡_};
 ghost use mathlib.Core.Bool.{false, _&&_, _||_};
-ghost use Prim.Native.Nat.{_+_, _^_, _<_};
+ghost use Prim.Native.Nat.{_+_};
 ghost use Rattle.scan.specs.Bytes.{Classes};
 ghost use Rattle.store.specs.Sevens.{named};
 ghost use Rattle.store.specs.Splice.{Put, Room};

@@ -6,9 +6,12 @@ use scan::part::part;
 use scan::run::long_run_end;
 use store::put_bytes;
 ghost use mathlib.Core.Path.{_≡_};
+ghost use mathlib.Core.Bool.{cond};
+ghost use Prim.Native.Nat.{_+_};
+ghost use lib.Dec.{eqb};
 ghost use lib.ListN.{length};
 ghost use Rattle.scan.specs.Bytes.{Classes};
-ghost use Rattle.scan.specs.Scan.{runAt};
+ghost use Rattle.scan.specs.Scan.{byteAt, runAt};
 ghost use Rattle.store.specs.Splice.{Put, Room};
 ghost use Rattle.lists.specs.Lists.{textAt};
 ghost use Rattle.lists.specs.Text.{quotedEscape, plainEscape, escapeOf, own, stopAt as stopOf, textEndAt, bytesAt};
@@ -32,7 +35,8 @@ pub struct ItemText {
 }
 
 pub fn item_text(s: &[u8], at: usize) -> ItemText
-    ensures { λ r. ⌜ bytesAt (r .quoted) (now (s .entry)) (r .from) ≡ textAt (now (s .entry)) at ⌝ }
+    ensures bytes { λ r. ⌜ bytesAt (r .quoted) (now (s .entry)) (r .from) ≡ textAt (now (s .entry)) at ⌝ }
+    ensures place { λ r. ⌜ (r .quoted ≡ eqb (byteAt (now (s .entry)) at) 0x22) × (r .from ≡ cond (r .quoted) (at + 1) at) ⌝ }
 {
     if byte_at(s, at) == 0x22 {
         return ItemText {

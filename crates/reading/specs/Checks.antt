@@ -32,6 +32,19 @@ checkOf text size =
     (Checked.Bad Refusal.LineTooLong)
 
 module _ (text : List ℕ) (size : ℕ) where
+  -- a text that fails a check: the refusal's number
+  pub check-bad : (x : Refusal) → checkOf text size ≡ Checked.Bad x → {A : Type 0} (refuse : ℕ → A) (answer : A) → checked refuse text size answer ≡ refuse (refusalNo x)
+  unfolding checkOf checked refusalNo
+  check-bad x e refuse answer = go (leb (length text) 1024) (leb (length text + 40) size) (isUtf8 text) e
+    where
+      go : (a b c : Bool) →
+          cond a (cond b (cond c Checked.Good (Checked.Bad Refusal.NotUtf8)) (Checked.Bad Refusal.StoreTooShort)) (Checked.Bad Refusal.LineTooLong) ≡ Checked.Bad x →
+          cond a (cond b (cond c answer (refuse 2)) (refuse 12)) (refuse 1) ≡ refuse (refusalNo x)
+      go true true true h = let z : _≡_ {A = ℕ} 0 1 = cc in absurd (omega arith)
+      go true true false h = let q : Refusal.NotUtf8 ≡ x = cc in rw (← q)
+      go true false c h = let q : Refusal.StoreTooShort ≡ x = cc in rw (← q)
+      go false b c h = let q : Refusal.LineTooLong ≡ x = cc in rw (← q)
+
   -- a text that passes: the reading's own answer, and room for all of the text
   pub check-good : checkOf text size ≡ Checked.Good → {A : Type 0} (refuse : ℕ → A) (answer : A) → checked refuse text size answer ≡ answer
   unfolding checkOf checked
@@ -55,19 +68,6 @@ module _ (text : List ℕ) (size : ℕ) where
       go true true c q h = leb-true (length text + 40) size q
       go true false c q h = let z : _≡_ {A = ℕ} 0 1 = cc in absurd (omega arith)
       go false b c q h = let z : _≡_ {A = ℕ} 0 1 = cc in absurd (omega arith)
-
-  -- a text that does not: the refusal's number
-  pub check-bad : (x : Refusal) → checkOf text size ≡ Checked.Bad x → {A : Type 0} (refuse : ℕ → A) (answer : A) → checked refuse text size answer ≡ refuse (refusalNo x)
-  unfolding checkOf checked refusalNo
-  check-bad x e refuse answer = go (leb (length text) 1024) (leb (length text + 40) size) (isUtf8 text) e
-    where
-      go : (a b c : Bool) →
-          cond a (cond b (cond c Checked.Good (Checked.Bad Refusal.NotUtf8)) (Checked.Bad Refusal.StoreTooShort)) (Checked.Bad Refusal.LineTooLong) ≡ Checked.Bad x →
-          cond a (cond b (cond c answer (refuse 2)) (refuse 12)) (refuse 1) ≡ refuse (refusalNo x)
-      go true true true h = let z : _≡_ {A = ℕ} 0 1 = cc in absurd (omega arith)
-      go true true false h = let q : Refusal.NotUtf8 ≡ x = cc in rw (← q)
-      go true false c h = let q : Refusal.StoreTooShort ≡ x = cc in rw (← q)
-      go false b c h = let q : Refusal.LineTooLong ≡ x = cc in rw (← q)
 
 -- a list's answer from what `parse_list` answers ------------------------------------------------------------------------------------------
 

@@ -16,7 +16,7 @@ text-size-requires : tie.Need-text-size-requires
 text-size-requires c κs = search needs
 
 sized : (c : tie.After-text-size) → let a = c .before .before .before .before .args in c .text-size .result ≡ length (textAt (a .s .now) (a .at))
-sized c = c .text-size .ensures ∙ ap length (c .before .item-text .ensures)
+sized c = c .text-size .ensures ∙ ap length (c .before .item-text .ensures .0)
 
 put-number-requires : tie.Need-put-number-requires
 unfolding named
@@ -24,14 +24,14 @@ put-number-requires c κs = rw (sized (c .before)) (room-first _ _ (c .before .b
 
 copy-text-requires : tie.Need-copy-text-requires
 unfolding named
-copy-text-requires c κs = (search needs, rw (c .before .before .before .before .before .before .item-text .ensures) (room-next (rw (sized (c .before .before .before .before .before)) at (c .before .before .before .put-number .ensures)) (c .before .before .before .before .before .before .before .before .before .pre .1)))
+copy-text-requires c κs = (search needs, rw (c .before .before .before .before .before .before .item-text .ensures .0) (room-next (rw (sized (c .before .before .before .before .before)) at (c .before .before .before .put-number .ensures)) (c .before .before .before .before .before .before .before .before .before .pre .1)))
 
 same-length : tie.Need-same-length
 same-length c = search needs
 
 returns : tie.Need-returns
 unfolding named
-returns c = put-then (rw (sized (c .before .before .before .before .before .before .before .before)) at (c .before .before .before .before .before .before .put-number .ensures)) (rw (c .before .before .before .before .before .before .before .before .before .item-text .ensures) at (c .before .before .copy-text .ensures))
+returns c = put-then (rw (sized (c .before .before .before .before .before .before .before .before)) at (c .before .before .before .before .before .before .put-number .ensures)) (rw (c .before .before .before .before .before .before .before .before .before .item-text .ensures .0) at (c .before .before .copy-text .ensures))
 
 pub put-item-spec : {M : Type 1} → statement M
 put-item-spec =

@@ -19,16 +19,16 @@ enum-told : tie.Need-enum-told
 enum-told c = search needs
 
 copy-text-requires : tie.Need-copy-text-requires
-copy-text-requires c κs = (search needs, room-plain (c .before .before .before .before .item-text .ensures) (c .before .before .before .before .before .before .before .pre .1))
+copy-text-requires c κs = (search needs, room-plain (c .before .before .before .before .item-text .ensures .0) (c .before .before .before .before .before .before .before .pre .1))
 
 same-length : tie.Need-same-length
 same-length c = search needs
 
 returns : tie.Need-returns
-returns c = seen-plain (c .before .before .before .before .before .before .before .item-text .ensures) (c .before .before .before .before .before .before .before .before .before .before .pre .1) (rw (c .before .before .before .before .enum-told .given .1) at (c .before .before .before .before .before .before .flag-start .ensures)) (c .before .before .copy-text .ensures)
+returns c = seen-plain (c .before .before .before .before .before .before .before .item-text .ensures .0) (c .before .before .before .before .before .before .before .before .before .before .pre .1) (rw (c .before .before .before .before .enum-told .given .1) at (c .before .before .before .before .before .before .flag-start .ensures)) (c .before .before .copy-text .ensures)
 
 copy-key-requires : tie.Need-copy-key-requires
-copy-key-requires c κs = (search needs, room-key (c .before .before .before .before .before .item-text .ensures) (c .before .before .before .before .before .before .before .before .pre .1) (rw (c .before .before .k .given .1) at (c .before .before .before .before .flag-start .ensures)))
+copy-key-requires c κs = (search needs, room-key (c .before .before .before .before .before .item-text .ensures .0) (c .before .before .before .before .before .before .before .before .pre .1) (rw (c .before .before .k .given .1) at (c .before .before .before .before .flag-start .ensures)))
 
 emit-at-requires : tie.Need-emit-at-requires
 emit-at-requires c κs = search needs
@@ -46,13 +46,13 @@ returns-2 : tie.Need-returns-2
 returns-2 c =
     let f = rw (c .before .before .before .before .before .before .before .before .k .given .1) at (c .before .before .before .before .before .before .before .before .before .before .flag-start .ensures) in
     let e = rw (c .enum-told2 .given .1) at (c .before .before .emit-at .ensures) in
-    seen-flag (c .before .before .before .before .before .before .before .before .before .before .before .item-text .ensures) (c .before .before .before .before .before .before .before .before .before .before .before .before .before .before .pre .1) f (c .before .before .before .before .before .copy-key .ensures .0) (sym (c .before .before .before .before .before .copy-key .ensures .1) ∙ e)
+    seen-flag (c .before .before .before .before .before .before .before .before .before .before .before .item-text .ensures .0) (c .before .before .before .before .before .before .before .before .before .before .before .before .before .before .pre .1) f (c .before .before .before .before .before .copy-key .ensures .0) (sym (c .before .before .before .before .before .copy-key .ensures .1) ∙ e)
 
 copy-text-requires-2 : tie.Need-copy-text-requires-2
 copy-text-requires-2 c κs =
     let f = rw (c .before .before .before .before .before .before .before .before .before .before .k .given .1) at (c .before .before .before .before .before .before .before .before .before .before .before .before .flag-start .ensures) in
     let e = rw (c .before .before .j .given .1) at (c .before .before .before .before .emit-at .ensures) in
-    (search needs, room-value (c .before .before .before .before .before .before .before .before .before .before .before .before .before .item-text .ensures) (c .before .before .before .before .before .before .before .before .before .before .before .before .before .before .before .before .pre .1) f (c .before .before .before .before .before .before .before .copy-key .ensures .0) (sym (c .before .before .before .before .before .before .before .copy-key .ensures .1) ∙ e .0))
+    (search needs, room-value (c .before .before .before .before .before .before .before .before .before .before .before .before .before .item-text .ensures .0) (c .before .before .before .before .before .before .before .before .before .before .before .before .before .before .before .before .pre .1) f (c .before .before .before .before .before .before .before .copy-key .ensures .0) (sym (c .before .before .before .before .before .before .before .copy-key .ensures .1) ∙ e .0))
 
 sub-t19 : tie.Need-sub-t19
 sub-t19 c = search needs
@@ -64,7 +64,7 @@ returns-3 : tie.Need-returns-3
 returns-3 c =
     let f = rw (c .before .before .before .before .before .before .before .before .before .before .before .before .before .before .k .given .1) at (c .before .before .before .before .before .before .before .before .before .before .before .before .before .before .before .before .flag-start .ensures) in
     let e = rw (c .before .before .before .before .before .before .j .given .1) at (c .before .before .before .before .before .before .before .before .emit-at .ensures) in
-    seen-value (c .before .before .before .before .before .before .before .before .before .before .before .before .before .before .before .before .before .item-text .ensures) (c .before .before .before .before .before .before .before .before .before .before .before .before .before .before .before .before .before .before .before .before .pre .1) f (c .before .before .before .before .before .before .before .before .before .before .before .copy-key .ensures .0) (sym (c .before .before .before .before .before .before .before .before .before .before .before .copy-key .ensures .1) ∙ e .0) (c .before .before .before .copy-text2 .ensures)
+    seen-value (c .before .before .before .before .before .before .before .before .before .before .before .before .before .before .before .before .before .item-text .ensures .0) (c .before .before .before .before .before .before .before .before .before .before .before .before .before .before .before .before .before .before .before .before .pre .1) f (c .before .before .before .before .before .before .before .before .before .before .before .copy-key .ensures .0) (sym (c .before .before .before .before .before .before .before .before .before .before .before .copy-key .ensures .1) ∙ e .0) (c .before .before .before .copy-text2 .ensures)
 
 pub copy-option-spec : {M : Type 1} → statement M
 copy-option-spec =

@@ -23,10 +23,10 @@ enum-told : tie.Need-enum-told
 enum-told c = search needs
 
 returns : tie.Need-returns
-returns c = c .key-is-empty .ensures ∙ sym (keyless-flag (rw (c .before .before .k .given .1) at (c .before .before .before .before .flag-start .ensures))) ∙ ap keyless (c .before .before .before .before .before .item-text .ensures)
+returns c = c .key-is-empty .ensures ∙ sym (keyless-flag (rw (c .before .before .k .given .1) at (c .before .before .before .before .flag-start .ensures))) ∙ ap keyless (c .before .before .before .before .before .item-text .ensures .0)
 
 returns-2 : tie.Need-returns-2
-returns-2 c = sym (ap keyless (sym (c .before .before .before .item-text .ensures)) ∙ keyless-plain _ (rw (c .enum-told .given .1) at (c .before .before .flag-start .ensures)))
+returns-2 c = sym (ap keyless (sym (c .before .before .before .item-text .ensures .0)) ∙ keyless-plain _ (rw (c .enum-told .given .1) at (c .before .before .flag-start .ensures)))
 
 pub empty-key-spec : {M : Type 1} → statement M
 empty-key-spec =

@@ -1,6 +1,6 @@
 -- `text::item_text` meets its contract.
 -- Assumes nothing.
-use mathlib.Core.Path.{_∙_, sym}
+use mathlib.Core.Path.{refl, _∙_, sym}
 use native.Mathlib.Omega.{arith}
 use borrow.Author.Tests.{eq-eqb, ne-eqb}
 use Rattle.scan.specs.RunLaws.{byte-inside}
@@ -17,11 +17,11 @@ add-t5 c = omega (arith, byte-inside (c .before .before .before .args .s .now) (
 
 returns : tie.Need-returns
 unfolding textAt
-returns c = rw (← c .before .byte-at .ensures, eq-eqb _ _ (c .if1 .taken))
+returns c = (rw (← c .before .byte-at .ensures, eq-eqb _ _ (c .if1 .taken)), (rw (← c .before .byte-at .ensures, eq-eqb _ _ (c .if1 .taken)), refl))
 
 returns-2 : tie.Need-returns-2
 unfolding textAt
-returns-2 c = rw (← c .before .byte-at .ensures, ne-eqb _ _ (c .if1 .left))
+returns-2 c = (rw (← c .before .byte-at .ensures, ne-eqb _ _ (c .if1 .left)), (rw (← c .before .byte-at .ensures, ne-eqb _ _ (c .if1 .left)), refl))
 
 pub item-text-spec : {M : Type 1} → statement M
 item-text-spec = tie.close (tie.spec byte-at-requires add-t5 returns returns-2)
