@@ -30,7 +30,7 @@ part-requires c κs = search needs
 put-name-requires : tie.Need-put-name-requires
 put-name-requires c κs =
     let p = c .before .before .before .before .before .before .before in
-    rw (c .part .ensures) (named-room _ (length (p .args .line .now)) (part-short (p .args .line .now) _ _) (omega arith) (omega (arith, p .pre .1)))
+    rw (c .part .ensures) (named-room _ (length (p .args .line .now)) (part-short (p .args .line .now) (c .before .before .before .end .given .0 .0) (c .before .before .before .end .given .0 .1 .0)) (omega arith) (omega (arith, p .pre .1)))
 
 enum-known-end-2 : tie.Need-enum-known-end-2
 enum-known-end-2 c = search needs
