@@ -7,6 +7,7 @@ pub const USAGE: &str = "\
 usage: oracle answer
        oracle random --seed S --count N [--ops lines|reading|all]
        oracle exhaustive --op OP --alphabet BYTES --length N [--before BYTES] [--after BYTES]
+       oracle commands
        oracle stats
        oracle line";
 
@@ -25,6 +26,8 @@ pub enum Task {
         before: Vec<u8>,
         after: Vec<u8>,
     },
+    /// Write a vector for every command with every shape of range, bang, argument and prefixes.
+    Commands,
     /// Count the vectors of standard input.
     Stats,
     /// Run standard input as one line of a fresh session, and print what it gives.
@@ -55,6 +58,7 @@ impl Task {
                 before: bytes(&options.take("--before").unwrap_or_default())?,
                 after: bytes(&options.take("--after").unwrap_or_default())?,
             },
+            "commands" => Task::Commands,
             "stats" => Task::Stats,
             "line" => Task::Line,
             _ => return Err(format!("no command {task}")),

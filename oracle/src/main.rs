@@ -7,6 +7,7 @@ mod answer;
 mod arguments;
 mod exhaustive;
 mod generate;
+mod product;
 mod record;
 mod refusal;
 mod session;

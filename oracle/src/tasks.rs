@@ -5,6 +5,7 @@ use crate::answer::Oracle;
 use crate::arguments::Task;
 use crate::exhaustive;
 use crate::generate::Requests;
+use crate::product;
 use crate::session::Session;
 use crate::stats::Stats;
 use crate::vector::{self, bad, read_op, read_part, Op};
@@ -47,6 +48,10 @@ pub fn perform(task: Task) -> io::Result<()> {
 
                 Ok::<_, io::Error>(())
             })?;
+        }
+        Task::Commands => {
+            let mut answers = Answers::new(&mut output);
+            product::each(|line| answers.write(Op::Line, line))?;
         }
         Task::Stats => Stats::read(&mut input)?.print(&mut output)?,
         Task::Line => {
