@@ -10,7 +10,9 @@ use super::action::TabAction;
 use super::action::Target;
 use super::action::WindowAction;
 use super::action::WriteName;
+use super::flags::CloseFlags;
 use super::flags::OpenFlags;
+use super::flags::WriteFlags;
 use lists::list::put_item;
 use ranges::range::MoveDir1D;
 use store::put_number;
@@ -199,10 +201,43 @@ fn put_written(store: &mut [u8], at: usize, s: &[u8], n: WriteName, classes: &[u
     }
 }
 
-// The parts of a window that is opened or split: target, flags, axis, side, count.
+// A kind, and what is closed: target, flags.
+fn put_closed(store: &mut [u8], at: usize, kind: u64, t: Target, f: CloseFlags) -> usize
+    requires { ⌜ at + 26 ≤ length (now store) ⌝ }
+    requires { ⌜ kind < 128 ⌝ }
+    ensures { λ r. ⌜ Within (now (store .entry)) (now (store .exit)) at r (encode kind ++ (targetBytes t ++ encode (f .bits))) 26 ⌝ }
+{
+    let i = put_small(store, at, kind);
+    let j = put_target(store, i, t);
+    put_any(store, j, f.bits)
+}
+
+// A kind and a focus.
+fn put_focused(store: &mut [u8], at: usize, kind: u64, f: FocusChange) -> usize
+    requires { ⌜ at + 15 ≤ length (now store) ⌝ }
+    requires { ⌜ kind < 128 ⌝ }
+    ensures { λ r. ⌜ Within (now (store .entry)) (now (store .exit)) at r (encode kind ++ focusBytes f) 15 ⌝ }
+{
+    let i = put_small(store, at, kind);
+    put_focus(store, i, f)
+}
+
+// A window that is resized: focus, axis, change.
+fn put_resized(store: &mut [u8], at: usize, f: FocusChange, a: Axis, c: SizeChange) -> usize
+    requires { ⌜ at + 27 ≤ length (now store) ⌝ }
+    ensures { λ r. ⌜ Within (now (store .entry)) (now (store .exit)) at r (encode 2 ++ (focusBytes f ++ (encode (axisNo a) ++ changeBytes c))) 27 ⌝ }
+{
+    let i = put_small(store, at, 2);
+    let j = put_focus(store, i, f);
+    let k = put_axis(store, j, a);
+    put_change(store, k, c)
+}
+
+// A kind, and a window that is opened or split: target, flags, axis, side, count.
 fn put_window(
     store: &mut [u8],
     at: usize,
+    kind: u64,
     s: &[u8],
     t: OpenTarget,
     f: OpenFlags,
@@ -212,14 +247,54 @@ fn put_window(
     classes: &[u8; 256],
 ) -> usize
     requires { ⌜ Classes (now classes) ⌝ }
-    requires { ⌜ at + (34 + length (now s)) ≤ length (now store) ⌝ }
-    ensures { λ r. ⌜ Within (now (store .entry)) (now (store .exit)) at r (openedBytes (openedOf (now (s .entry)) t) ++ (encode (f .bits) ++ (encode (axisNo a) ++ (encode (sideNo d) ++ countBytes n)))) (34 + length (now (s .entry))) ⌝ }
+    requires { ⌜ at + (35 + length (now s)) ≤ length (now store) ⌝ }
+    requires { ⌜ kind < 128 ⌝ }
+    ensures { λ r. ⌜ Within (now (store .entry)) (now (store .exit)) at r (encode kind ++ (openedBytes (openedOf (now (s .entry)) t) ++ (encode (f .bits) ++ (encode (axisNo a) ++ (encode (sideNo d) ++ countBytes n))))) (35 + length (now (s .entry))) ⌝ }
 {
-    let i = put_opened(store, at, s, t, classes);
+    let h = put_small(store, at, kind);
+    let i = put_opened(store, h, s, t, classes);
     let j = put_any(store, i, f.bits);
     let k = put_axis(store, j, a);
     let l = put_side(store, k, d);
     put_count(store, l, n)
+}
+
+// A window that is switched: target, flags.
+fn put_switched(
+    store: &mut [u8],
+    at: usize,
+    s: &[u8],
+    t: OpenTarget,
+    f: OpenFlags,
+    classes: &[u8; 256],
+) -> usize
+    requires { ⌜ Classes (now classes) ⌝ }
+    requires { ⌜ at + (22 + length (now s)) ≤ length (now store) ⌝ }
+    ensures { λ r. ⌜ Within (now (store .entry)) (now (store .exit)) at r (encode 5 ++ (openedBytes (openedOf (now (s .entry)) t) ++ encode (f .bits))) (22 + length (now (s .entry))) ⌝ }
+{
+    let i = put_small(store, at, 5);
+    let j = put_opened(store, i, s, t, classes);
+    put_any(store, j, f.bits)
+}
+
+// Windows that are written: target, name, flags.
+fn put_write(
+    store: &mut [u8],
+    at: usize,
+    s: &[u8],
+    t: Target,
+    n: WriteName,
+    f: WriteFlags,
+    classes: &[u8; 256],
+) -> usize
+    requires { ⌜ Classes (now classes) ⌝ }
+    requires { ⌜ at + (37 + length (now s)) ≤ length (now store) ⌝ }
+    ensures { λ r. ⌜ Within (now (store .entry)) (now (store .exit)) at r (encode 6 ++ (targetBytes t ++ (writtenBytes (writtenOf (now (s .entry)) n) ++ encode (f .bits)))) (37 + length (now (s .entry))) ⌝ }
+{
+    let i = put_small(store, at, 6);
+    let j = put_target(store, i, t);
+    let k = put_written(store, j, s, n, classes);
+    put_any(store, k, f.bits)
 }
 
 fn put_window_action(
@@ -234,36 +309,12 @@ fn put_window_action(
     ensures { λ r. ⌜ Within (now (store .entry)) (now (store .exit)) at r (paperRecord (windowOf (now (s .entry)) w)) (40 + length (now (s .entry))) ⌝ }
 {
     match w {
-        WindowAction::Close(t, f) => {
-            let i = put_small(store, at, 1);
-            let j = put_target(store, i, t);
-            put_any(store, j, f.bits)
-        }
-        WindowAction::Resize(f, a, c) => {
-            let i = put_small(store, at, 2);
-            let j = put_focus(store, i, f);
-            let k = put_axis(store, j, a);
-            put_change(store, k, c)
-        }
-        WindowAction::Open(t, f, a, d, n) => {
-            let i = put_small(store, at, 3);
-            put_window(store, i, s, t, f, a, d, n, classes)
-        }
-        WindowAction::Split(t, f, a, d, n) => {
-            let i = put_small(store, at, 4);
-            put_window(store, i, s, t, f, a, d, n, classes)
-        }
-        WindowAction::Switch(t, f) => {
-            let i = put_small(store, at, 5);
-            let j = put_opened(store, i, s, t, classes);
-            put_any(store, j, f.bits)
-        }
-        WindowAction::Write(t, n, f) => {
-            let i = put_small(store, at, 6);
-            let j = put_target(store, i, t);
-            let k = put_written(store, j, s, n, classes);
-            put_any(store, k, f.bits)
-        }
+        WindowAction::Close(t, f) => put_closed(store, at, 1, t, f),
+        WindowAction::Resize(f, a, c) => put_resized(store, at, f, a, c),
+        WindowAction::Open(t, f, a, d, n) => put_window(store, at, 3, s, t, f, a, d, n, classes),
+        WindowAction::Split(t, f, a, d, n) => put_window(store, at, 4, s, t, f, a, d, n, classes),
+        WindowAction::Switch(t, f) => put_switched(store, at, s, t, f, classes),
+        WindowAction::Write(t, n, f) => put_write(store, at, s, t, n, f, classes),
     }
 }
 
@@ -273,19 +324,9 @@ fn put_tab_action(store: &mut [u8], at: usize, s: &[u8], t: TabAction, classes: 
     ensures { λ r. ⌜ Within (now (store .entry)) (now (store .exit)) at r (paperRecord (tabOf (now (s .entry)) t)) (40 + length (now (s .entry))) ⌝ }
 {
     match t {
-        TabAction::Close(x, f) => {
-            let i = put_small(store, at, 7);
-            let j = put_target(store, i, x);
-            put_any(store, j, f.bits)
-        }
-        TabAction::Focus(f) => {
-            let i = put_small(store, at, 8);
-            put_focus(store, i, f)
-        }
-        TabAction::Move(f) => {
-            let i = put_small(store, at, 9);
-            put_focus(store, i, f)
-        }
+        TabAction::Close(x, f) => put_closed(store, at, 7, x, f),
+        TabAction::Focus(f) => put_focused(store, at, 8, f),
+        TabAction::Move(f) => put_focused(store, at, 9, f),
         TabAction::Open(x, f, c) => {
             let i = put_small(store, at, 10);
             let j = put_opened(store, i, s, x, classes);

@@ -1,12 +1,13 @@
 -- `record::put_window` meets its contract.
 -- Assumes nothing.
 use native.Mathlib.Omega.{arith}
-use Prim.Native.Nat.{_+_}
-use lib.ListN.{length}
 use Rattle.actions.specs.Within.{within-then, within-more}
 use borrow.Author.Needs.{needs}
 use Rattle.actions.proofs.record.put_window.Statement.{statement}
 use Rattle.actions.proofs.record.put_window.Tie as tie
+
+put-small-requires : tie.Need-put-small-requires
+put-small-requires c κs = search needs
 
 put-opened-requires : tie.Need-put-opened-requires
 put-opened-requires c κs = search needs
@@ -27,14 +28,13 @@ same-length : tie.Need-same-length
 same-length c = search needs
 
 returns : tie.Need-returns
-returns c =
-    let n = length (c .before .before .before .before .before .before .before .before .before .before .before .before .before .before .before .before .before .before .before .before .before .before .args .s .now) in
-    within-more ((11 + n) + (10 + (1 + (1 + 11)))) (34 + n) (omega arith) (within-then (11 + n) (10 + (1 + (1 + 11))) (c .before .before .before .before .before .before .before .before .before .before .before .before .before .before .before .before .before .before .put-opened .ensures) (within-then 10 (1 + (1 + 11)) (c .before .before .before .before .before .before .before .before .before .before .before .before .before .before .put-any .ensures) (within-then 1 (1 + 11) (c .before .before .before .before .before .before .before .before .before .before .put-axis .ensures) (within-then 1 11 (c .before .before .before .before .before .before .put-side .ensures) (c .before .before .put-count .ensures)))))
+returns c = within-more _ _ (omega arith) (within-then _ _ (c .before .before .before .before .before .before .before .before .before .before .before .before .before .before .before .before .before .before .before .before .before .before .put-small .ensures) (within-then _ _ (c .before .before .before .before .before .before .before .before .before .before .before .before .before .before .before .before .before .before .put-opened .ensures) (within-then _ _ (c .before .before .before .before .before .before .before .before .before .before .before .before .before .before .put-any .ensures) (within-then _ _ (c .before .before .before .before .before .before .before .before .before .before .put-axis .ensures) (within-then _ _ (c .before .before .before .before .before .before .put-side .ensures) (c .before .before .put-count .ensures))))))
 
 pub put-window-spec : {M : Type 1} → statement M
 put-window-spec =
     tie.close
     (tie.spec
+    put-small-requires
     put-opened-requires
     put-any-requires
     put-axis-requires

@@ -1,8 +1,9 @@
 -- `text::copy_text` meets its contract. The invariant: what is still to be written, from n on, makes the store asked for.
 -- Assumes nothing.
 use mathlib.Core.Path.{_≡_, _∙_, sym, ap}
-use mathlib.Core.List.{_∷_, _++_}
-use Prim.Native.Nat.{_-_, _+_, _<_}
+use mathlib.Core.Bool.{Bool}
+use mathlib.Core.List.{List, _∷_, _++_}
+use Prim.Native.Nat.{ℕ, _-_, _+_, _<_}
 use native.Mathlib.Omega.{arith}
 use lib.ListN.{length}
 use Rattle.scan.specs.Scan.{byteAt, partOf}
@@ -81,31 +82,41 @@ returns-2 c =
     let e = sym (c .before .before .escape-of .ensures ∙ ap (escapeOf (a .quoted)) (c .before .before .before .byte-at2 .ensures)) ∙ c .enum-told .given .1 in
     writing-end (bytes-bad (a .quoted) (a .s .now) (c .before .before .before .before .before .before .before .before .before .before .before .own-end .result) b e) (written (c .before .before .before .before .before .before .before .before))
 
-taken : (c : tie.After-known-told Inv-loop μ-loop) →
-    let a = c .before .before .before .before .before .before .before .before .before .before .before .before .before .before .before .before .args in
-    escapeOf (a .quoted) (byteAt (a .s .now) (c .before .before .before .before .before .before .before .before .before .before .before .before .own-end .result + 1)) ≡ Escape.Byte (c .before .c .given .0 .0)
+-- at an escape: the text, where the escape stands, and the byte that it stands for
+abbrev text : tie.After-known-told Inv-loop μ-loop → List ℕ
+text c = c .before .before .before .before .before .before .before .before .before .before .before .before .before .before .before .before .args .s .now
+
+abbrev stop : tie.After-known-told Inv-loop μ-loop → ℕ
+stop c = c .before .before .before .before .before .before .before .before .before .before .before .before .own-end .result
+
+abbrev quoted : tie.After-known-told Inv-loop μ-loop → Bool
+quoted c = c .before .before .before .before .before .before .before .before .before .before .before .before .before .before .before .before .args .quoted
+
+taken : (c : tie.After-known-told Inv-loop μ-loop) → escapeOf (quoted c) (byteAt (text c) (stop c + 1)) ≡ Escape.Byte (c .before .c .given .0 .0)
 taken c = sym (c .before .before .before .escape-of .ensures ∙ ap (escapeOf _) (c .before .before .before .before .byte-at2 .ensures)) ∙ c .before .c .given .1
 
-escaped : (c : tie.After-known-told Inv-loop μ-loop) →
-    let a = c .before .before .before .before .before .before .before .before .before .before .before .before .before .before .before .before .args in
-    let q = bytesAt (a .quoted) (a .s .now) in
-    q (c .before .before .before .before .before .before .before .before .before .before .before .before .own-end .result) ≡ c .before .c .given .0 .0 ∷ q (c .before .before .before .before .before .before .before .before .before .before .before .before .own-end .result + 2)
+escaped : (c : tie.After-known-told Inv-loop μ-loop) → bytesAt (quoted c) (text c) (stop c) ≡ c .before .c .given .0 .0 ∷ bytesAt (quoted c) (text c) (stop c + 2)
 escaped c = bytes-escape _ _ _ (sym (c .before .before .before .before .before .before .byte-at .ensures) ∙ c .before .before .before .before .before .if1 .left) _ (taken c)
 
-next : (c : tie.After-known-told Inv-loop μ-loop) → c .before .before .before .before .before .before .before .before .before .before .before .before .own-end .result + 1 < length (c .before .before .before .before .before .before .before .before .before .before .before .before .before .before .before .before .args .s .now)
-next c = escape-inside _ (c .before .before .before .before .before .before .before .before .before .before .before .before .before .before .before .before .args .s .now) _ _ (taken c)
+next : (c : tie.After-known-told Inv-loop μ-loop) → stop c + 1 < length (text c)
+next c = escape-inside _ (text c) _ _ (taken c)
+
+room : (c : tie.After-known-told Inv-loop μ-loop) → c .before .before .before .before .before .before .before .before .before .put-bytes .result < length (c .before .before .before .before .before .before .before .before .before .put-bytes .last .0)
+room c =
+    let w = written (c .before .before .before .before .before .before .before .before .before) in
+    omega (arith, w .count, w .size, c .before .before .before .before .before .before .before .before .before .before .before .before .before .before .before .before .pre .1 .fits, ap length (escaped c))
 
 slice-write-store : tie.Need-slice-write-store Inv-loop μ-loop
-slice-write-store c = omega (arith, written (c .before .before .before .before .before .before .before .before .before) .count, written (c .before .before .before .before .before .before .before .before .before) .size, c .before .before .before .before .before .before .before .before .before .before .before .before .before .before .before .before .pre .1 .fits, ap length (escaped c))
+slice-write-store c = omega (arith, room c)
 
 add-n : tie.Need-add-n Inv-loop μ-loop
-add-n c = omega (arith, written (c .before .before .before .before .before .before .before .before .before) .count, written (c .before .before .before .before .before .before .before .before .before) .size, c .before .before .before .before .before .before .before .before .before .before .before .before .before .before .before .before .pre .1 .fits, ap length (escaped c))
+add-n c = omega (arith, room c)
 
 add-i : tie.Need-add-i Inv-loop μ-loop
 add-i c = omega (arith, next c)
 
 loop-less : tie.Need-loop-less Inv-loop μ-loop
-loop-less c = omega (arith, next c, c .before .before .before .before .before .before .before .before .before .before .before .before .own-end .ensures, runAt-le (own (c .before .before .before .before .before .before .before .before .before .before .before .before .before .before .before .before .args .quoted)) (c .before .before .before .before .before .before .before .before .before .before .before .before .before .before .before .before .args .s .now) (c .before .before .before .before .before .before .before .before .before .before .before .before .before .loop .i))
+loop-less c = omega (arith, next c, c .before .before .before .before .before .before .before .before .before .before .before .before .own-end .ensures, runAt-le (own (quoted c)) (text c) (c .before .before .before .before .before .before .before .before .before .before .before .before .before .loop .i))
 
 loop-again : tie.Need-loop-again Inv-loop μ-loop
 loop-again c = writing-byte _ _ (escaped c) (written (c .before .before .before .before .before .before .before .before .before))

@@ -1,8 +1,8 @@
 -- `run::not_plain` meets its contract.
 -- Assumes nothing.
-use native.Mathlib.Omega.{arith}
 use borrow.Author.Tests.{ne-eqb}
 use Rattle.scan.specs.Bytes.{isPlain}
+use Rattle.scan.proofs.ByteLaws.{larger-zero}
 use borrow.Author.Needs.{needs}
 use Rattle.scan.proofs.run.not_plain.Statement.{statement}
 use Rattle.scan.proofs.run.not_plain.Tie as tie
@@ -43,13 +43,18 @@ larger-requires-5 c κs = search needs
 returns : tie.Need-returns
 unfolding isPlain
 returns c = λ h.
+    let all = larger-zero (c .larger5 .ensures .0) h in
+    let blank = larger-zero (c .before .before .before .before .before .before .larger2 .ensures .0) (all .0) in
+    let feed = larger-zero (c .before .before .before .before .before .before .before .larger .ensures .0) (blank .1) in
+    let sign = larger-zero (c .before .larger4 .ensures .0) (all .1) in
+    let quote = larger-zero (c .before .before .larger3 .ensures .0) (sign .1) in
     rw (
-      ne-eqb _ _ (c .before .before .before .before .before .before .before .before .before .before .same .ensures (omega (arith, h, c .larger5 .ensures .0 .0, c .larger5 .ensures .0 .1, c .before .larger4 .ensures .0 .0, c .before .larger4 .ensures .0 .1, c .before .before .larger3 .ensures .0 .0, c .before .before .larger3 .ensures .0 .1, c .before .before .before .before .before .before .larger2 .ensures .0 .0, c .before .before .before .before .before .before .larger2 .ensures .0 .1, c .before .before .before .before .before .before .before .larger .ensures .0 .0, c .before .before .before .before .before .before .before .larger .ensures .0 .1))),
-      ne-eqb _ _ (c .before .before .before .before .before .before .before .before .before .same2 .ensures (omega (arith, h, c .larger5 .ensures .0 .0, c .larger5 .ensures .0 .1, c .before .larger4 .ensures .0 .0, c .before .larger4 .ensures .0 .1, c .before .before .larger3 .ensures .0 .0, c .before .before .larger3 .ensures .0 .1, c .before .before .before .before .before .before .larger2 .ensures .0 .0, c .before .before .before .before .before .before .larger2 .ensures .0 .1, c .before .before .before .before .before .before .before .larger .ensures .0 .0, c .before .before .before .before .before .before .before .larger .ensures .0 .1))),
-      ne-eqb _ _ (c .before .before .before .before .before .before .before .before .same3 .ensures (omega (arith, h, c .larger5 .ensures .0 .0, c .larger5 .ensures .0 .1, c .before .larger4 .ensures .0 .0, c .before .larger4 .ensures .0 .1, c .before .before .larger3 .ensures .0 .0, c .before .before .larger3 .ensures .0 .1, c .before .before .before .before .before .before .larger2 .ensures .0 .0, c .before .before .before .before .before .before .larger2 .ensures .0 .1, c .before .before .before .before .before .before .before .larger .ensures .0 .0, c .before .before .before .before .before .before .before .larger .ensures .0 .1))),
-      ne-eqb _ _ (c .before .before .before .before .before .same4 .ensures (omega (arith, h, c .larger5 .ensures .0 .0, c .larger5 .ensures .0 .1, c .before .larger4 .ensures .0 .0, c .before .larger4 .ensures .0 .1, c .before .before .larger3 .ensures .0 .0, c .before .before .larger3 .ensures .0 .1, c .before .before .before .before .before .before .larger2 .ensures .0 .0, c .before .before .before .before .before .before .larger2 .ensures .0 .1, c .before .before .before .before .before .before .before .larger .ensures .0 .0, c .before .before .before .before .before .before .before .larger .ensures .0 .1))),
-      ne-eqb _ _ (c .before .before .before .before .same5 .ensures (omega (arith, h, c .larger5 .ensures .0 .0, c .larger5 .ensures .0 .1, c .before .larger4 .ensures .0 .0, c .before .larger4 .ensures .0 .1, c .before .before .larger3 .ensures .0 .0, c .before .before .larger3 .ensures .0 .1, c .before .before .before .before .before .before .larger2 .ensures .0 .0, c .before .before .before .before .before .before .larger2 .ensures .0 .1, c .before .before .before .before .before .before .before .larger .ensures .0 .0, c .before .before .before .before .before .before .before .larger .ensures .0 .1))),
-      ne-eqb _ _ (c .before .before .before .same6 .ensures (omega (arith, h, c .larger5 .ensures .0 .0, c .larger5 .ensures .0 .1, c .before .larger4 .ensures .0 .0, c .before .larger4 .ensures .0 .1, c .before .before .larger3 .ensures .0 .0, c .before .before .larger3 .ensures .0 .1, c .before .before .before .before .before .before .larger2 .ensures .0 .0, c .before .before .before .before .before .before .larger2 .ensures .0 .1, c .before .before .before .before .before .before .before .larger .ensures .0 .0, c .before .before .before .before .before .before .before .larger .ensures .0 .1))),
+      ne-eqb _ _ (c .before .before .before .before .before .before .before .before .before .before .same .ensures (blank .0)),
+      ne-eqb _ _ (c .before .before .before .before .before .before .before .before .before .same2 .ensures (feed .0)),
+      ne-eqb _ _ (c .before .before .before .before .before .before .before .before .same3 .ensures (feed .1)),
+      ne-eqb _ _ (c .before .before .before .before .before .same4 .ensures (sign .0)),
+      ne-eqb _ _ (c .before .before .before .before .same5 .ensures (quote .0)),
+      ne-eqb _ _ (c .before .before .before .same6 .ensures (quote .1)),
     )
 
 pub not-plain-spec : {M : Type 1} → statement M
