@@ -110,6 +110,13 @@ wordAt-in s i h = go (eqb (byteAt s i) 0x21) (eqb (runAt isWord s i) i) (leb (le
           last = λ x n y. runAt-ends isWord s i y;
         }
 
+-- `!` is a word by itself
+pub word-bang : (s : List ℕ) (i j k : ℕ) → byteAt s i ≡ 0x21 → wordAt s i ≡ WordRead.Word j k → j ≡ i + 1
+unfolding wordAt
+word-bang s i j k e h =
+    let q : wordAt s i ≡ WordRead.Word (i + 1) (i + 1) = rw (eq-eqb (byteAt s i) 0x21 e) in
+    cc
+
 -- a reading taken apart ---------------------------------------------------------------------------------------------------
 
 -- the word stands where the range ends

@@ -72,7 +72,7 @@ pub enum Checked {
 }
 
 // The checks 1, 12 and 2, in this order, for a text and a store of `size` bytes.
-fn check(text: &[u8], size: usize) -> Checked
+pub fn check(text: &[u8], size: usize) -> Checked
     ensures { λ r. ⌜ r ≡ checkOf (now (text .entry)) size ⌝ }
 {
     let n = text.len();
