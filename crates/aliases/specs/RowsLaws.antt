@@ -15,6 +15,20 @@ use Rattle.words.specs.Words.{Row, same, lookupIn}
 use Rattle.words.specs.declared.words.Named.{Named}
 use Rattle.aliases.specs.Rows.{rowsFrom, rowsOf}
 
+-- the row at position i, whose word is n bytes long -------------------------------------------------------------------------------------------
+
+pub row-word : (s : List ℕ) (i n : ℕ) → take n (drop 1 (drop (i + 1) s)) ≡ partOf s (i + 2) (i + 2 + n)
+row-word s i n =
+    let e : n ≡ i + 2 + n - (i + 2) = omega arith in
+    let f : i + 1 + 1 ≡ i + 2 = omega arith in
+    ap (take n) (drop-drop 1 (i + 1) s ∙ ap (λ (k : ℕ). drop k s) f) ∙ ap (λ (k : ℕ). take k (drop (i + 2) s)) e
+
+pub row-command : (s : List ℕ) (i : ℕ) → getD (drop (i + 1) s) 0 0 ≡ byteAt s (i + 1)
+row-command s i = let e : i + 1 + 0 ≡ i + 1 = omega arith in getD-drop (i + 1) s 0 0 ∙ ap (λ (k : ℕ). getD s k 0) e
+
+pub row-rest : (s : List ℕ) (i n : ℕ) → drop (n + 1) (drop (i + 1) s) ≡ drop (i + 2 + n) s
+row-rest s i n = let e : i + 1 + (n + 1) ≡ i + 2 + n = omega arith in drop-drop (n + 1) (i + 1) s ∙ ap (λ (k : ℕ). drop k s) e
+
 -- rows ----------------------------------------------------------------------------------------------------------------------------------
 
 -- k bytes passed are k bytes dropped
@@ -36,28 +50,28 @@ pub rows-start : (s : List ℕ) → rowsOf s ≡ rowsAt s 0
 unfolding rowsOf rowsAt
 rows-start s = refl
 
-rows-end : (s : List ℕ) (i : ℕ) → length s ≤ i → rowsAt s i ≡ []
+pub rows-end : (s : List ℕ) (i : ℕ) → length s ≤ i → rowsAt s i ≡ []
 unfolding rowsAt rowsFrom
 rows-end s i h = rw (drop-of-length-le s h)
 
 -- a row and those behind it
-rows-step : (s : List ℕ) (i : ℕ) → i < length s → rowsAt s i ≡ record { word = partOf s (i + 2) (i + 2 + byteAt s i); command = byteAt s (i + 1) } ∷ rowsAt s (i + 2 + byteAt s i)
+pub rows-step : (s : List ℕ) (i : ℕ) → i < length s → rowsAt s i ≡ record { word = partOf s (i + 2) (i + 2 + byteAt s i); command = byteAt s (i + 1) } ∷ rowsAt s (i + 2 + byteAt s i)
 unfolding rowsAt
 rows-step s i h = ap (rowsFrom 0) (drop-step s i h) ∙ go (byteAt s i)
   where
     go : (n : ℕ) → rowsFrom 0 (n ∷ drop (i + 1) s) ≡ record { word = partOf s (i + 2) (i + 2 + n); command = byteAt s (i + 1) } ∷ rowsFrom 0 (drop (i + 2 + n) s)
-    go n =
-        let word : take n (drop 1 (drop (i + 1) s)) ≡ partOf s (i + 2) (i + 2 + n) =
-        let e : n ≡ i + 2 + n - (i + 2) = omega arith in
-        let f : i + 1 + 1 ≡ i + 2 = omega arith in
-        ap (take n) (drop-drop 1 (i + 1) s ∙ ap (λ (k : ℕ). drop k s) f) ∙ ap (λ (k : ℕ). take k (drop (i + 2) s)) e in
-        let command : getD (drop (i + 1) s) 0 0 ≡ byteAt s (i + 1) =
-        let e : i + 1 + 0 ≡ i + 1 = omega arith in
-        getD-drop (i + 1) s 0 0 ∙ ap (λ (k : ℕ). getD s k 0) e in
-        let rest : rowsFrom (n + 1) (drop (i + 1) s) ≡ rowsFrom 0 (drop (i + 2 + n) s) =
-        let e : i + 1 + (n + 1) ≡ i + 2 + n = omega arith in
-        rows-skip (n + 1) (drop (i + 1) s) ∙ ap (rowsFrom 0) (drop-drop (n + 1) (i + 1) s ∙ ap (λ (k : ℕ). drop k s) e) in
-        rows-cons n (drop (i + 1) s) ∙ rw (word, command, rest)
+    go n = rows-cons n (drop (i + 1) s) ∙ rw (row-word s i n, row-command s i, rows-skip (n + 1) (drop (i + 1) s), row-rest s i n)
+
+-- no more rows than bytes
+rows-from-count : (k : ℕ) (xs : List ℕ) → length (rowsFrom k xs) ≤ length xs
+unfolding rowsFrom
+rows-from-count k [] = omega arith
+rows-from-count (suc k) (b ∷ bs) = omega (arith, rows-from-count k bs)
+rows-from-count zero (n ∷ bs) = omega (arith, rows-from-count (n + 1) bs)
+
+pub rows-count : (s : List ℕ) → length (rowsOf s) ≤ length s
+unfolding rowsOf
+rows-count s = rows-from-count 0 s
 
 -- lookup --------------------------------------------------------------------------------------------------------------------------------
 

@@ -1,4 +1,4 @@
--- `same` meets its contract. The invariant: the words are the same if they are so from i on.
+-- `lookup::same` meets its contract. The invariant: the words are the same if they are so from i on.
 -- Assumes nothing.
 use mathlib.Core.Path.{_≡_, _∙_, sym}
 use Prim.Native.Nat.{_-_}
@@ -6,8 +6,8 @@ use native.Mathlib.Omega.{arith}
 use Rattle.words.specs.Words.{same as sameWord}
 use Rattle.aliases.specs.RowsLaws.{same-lengths, sameAt, same-start, same-end, same-on, same-off}
 use borrow.Author.Needs.{needs}
-use Rattle.aliases.proofs.same.Statement.{statement}
-use Rattle.aliases.proofs.same.Tie as tie
+use Rattle.aliases.proofs.lookup.same.Statement.{statement}
+use Rattle.aliases.proofs.lookup.same.Tie as tie
 
 abbrev Inv-loop : tie.InvT-loop
 Inv-loop a b n i₀ i = sameWord a b ≡ sameAt a b i

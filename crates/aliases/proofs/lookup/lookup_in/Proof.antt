@@ -1,11 +1,11 @@
--- `lookup_in` meets its contract.
+-- `lookup::lookup_in` meets its contract.
 -- Assumes nothing.
 use mathlib.Core.Path.{sym, _∙_}
 use Rattle.words.specs.Words.{lookup}
 use Rattle.aliases.specs.RowsLaws.{lookup-append}
 use borrow.Author.Needs.{needs}
-use Rattle.aliases.proofs.lookup_in.Statement.{statement}
-use Rattle.aliases.proofs.lookup_in.Tie as tie
+use Rattle.aliases.proofs.lookup.lookup_in.Statement.{statement}
+use Rattle.aliases.proofs.lookup.lookup_in.Tie as tie
 
 find-requires : tie.Need-find-requires
 find-requires c κs = search needs

@@ -1,4 +1,4 @@
--- `find` meets its contract. The invariant: the word is found from i on, or nowhere.
+-- `lookup::find` meets its contract. The invariant: the word is found from i on, or nowhere.
 -- Assumes nothing.
 use mathlib.Core.Path.{_≡_, sym, _∙_, ap}
 use Prim.Native.Nat.{_-_}
@@ -8,8 +8,8 @@ use Rattle.words.specs.Words.{same as sameWord, lookupIn}
 use Rattle.aliases.specs.Rows.{rowsOf}
 use Rattle.aliases.specs.RowsLaws.{rowsAt, rows-start, find-here, find-past, find-end}
 use borrow.Author.Needs.{needs}
-use Rattle.aliases.proofs.find.Statement.{statement}
-use Rattle.aliases.proofs.find.Tie as tie
+use Rattle.aliases.proofs.lookup.find.Statement.{statement}
+use Rattle.aliases.proofs.lookup.find.Tie as tie
 
 abbrev Inv-loop : tie.InvT-loop
 Inv-loop added w i₀ i = lookupIn (rowsOf added) w ≡ lookupIn (rowsAt added i) w
