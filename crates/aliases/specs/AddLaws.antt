@@ -55,10 +55,10 @@ unfolding placeFrom
 place-cons i n w bs = go (orderOf w (take n (drop 1 bs)))
   where
     go : (o : Order) → elim o as (λ x. Place) [
-          | Order.Less ↦ record { head = i; tail = i }
-          | Order.Same ↦ record { head = i; tail = i + 2 + n }
-          | Order.Greater ↦ placeFrom (n + 1) (i + 1) w bs
-        ] ≡ placeBy i n w bs o
+      | Order.Less ↦ record { head = i; tail = i }
+      | Order.Same ↦ record { head = i; tail = i + 2 + n }
+      | Order.Greater ↦ placeFrom (n + 1) (i + 1) w bs
+    ] ≡ placeBy i n w bs o
     go Order.Less = refl
     go Order.Same = refl
     go Order.Greater = refl
@@ -159,7 +159,7 @@ place-rows w (r ∷ rs) i =
     ∙ bytes-place w r rs i (orderOf w (r .word)) (place-rows w rs)
 
 -- the rows with a word added, in bytes
-abbrev insertBy : List ℕ → ℕ → Row → List Row → Order → List Row
+abbrev pub insertBy : List ℕ → ℕ → Row → List Row → Order → List Row
 insertBy w c r rs Order.Less = row w c ∷ r ∷ rs
 insertBy w c r rs Order.Same = row w c ∷ rs
 insertBy w c r rs Order.Greater = r ∷ insert w c rs
@@ -169,10 +169,10 @@ unfolding insert
 insert-cons w c r rs = go (orderOf w (r .word))
   where
     go : (o : Order) → elim o as (λ x. List Row) [
-          | Order.Less ↦ row w c ∷ r ∷ rs
-          | Order.Same ↦ row w c ∷ rs
-          | Order.Greater ↦ r ∷ insert w c rs
-        ] ≡ insertBy w c r rs o
+      | Order.Less ↦ row w c ∷ r ∷ rs
+      | Order.Same ↦ row w c ∷ rs
+      | Order.Greater ↦ r ∷ insert w c rs
+    ] ≡ insertBy w c r rs o
     go Order.Less = refl
     go Order.Same = refl
     go Order.Greater = refl

@@ -12,13 +12,13 @@ use Rattle.aliases.specs.RowsLaws.{row-word, row-command, row-rest}
 use Rattle.aliases.specs.Good.{goodRow, goodFrom}
 
 -- k bytes passed are k bytes dropped
-good-skip : (k : ℕ) (before xs : List ℕ) → goodFrom k before xs ≡ goodFrom 0 before (drop k xs)
+pub good-skip : (k : ℕ) (before xs : List ℕ) → goodFrom k before xs ≡ goodFrom 0 before (drop k xs)
 unfolding goodFrom
 good-skip zero before xs = refl
 good-skip (suc k) before [] = refl
 good-skip (suc k) before (b ∷ bs) = good-skip k before bs
 
-good-cons : (before : List ℕ) (n : ℕ) (bs : List ℕ) → goodFrom 0 before (n ∷ bs) ≡ (goodRow before n (getD bs 0 0) (take n (drop 1 bs)) && goodFrom (n + 1) (take n (drop 1 bs)) bs)
+pub good-cons : (before : List ℕ) (n : ℕ) (bs : List ℕ) → goodFrom 0 before (n ∷ bs) ≡ (goodRow before n (getD bs 0 0) (take n (drop 1 bs)) && goodFrom (n + 1) (take n (drop 1 bs)) bs)
 unfolding goodFrom
 good-cons before n bs = refl
 

@@ -6,3 +6,4 @@ pub mod Good
 pub mod GoodLaws
 pub mod Add
 pub mod AddLaws
+pub mod TableLaws

@@ -32,13 +32,13 @@ row-rest s i n = let e : i + 1 + (n + 1) ≡ i + 2 + n = omega arith in drop-dro
 -- rows ----------------------------------------------------------------------------------------------------------------------------------
 
 -- k bytes passed are k bytes dropped
-rows-skip : (k : ℕ) (xs : List ℕ) → rowsFrom k xs ≡ rowsFrom 0 (drop k xs)
+pub rows-skip : (k : ℕ) (xs : List ℕ) → rowsFrom k xs ≡ rowsFrom 0 (drop k xs)
 unfolding rowsFrom
 rows-skip zero xs = refl
 rows-skip (suc k) [] = refl
 rows-skip (suc k) (b ∷ bs) = rows-skip k bs
 
-rows-cons : (n : ℕ) (bs : List ℕ) → rowsFrom 0 (n ∷ bs) ≡ record { word = take n (drop 1 bs); command = getD bs 0 0 } ∷ rowsFrom (n + 1) bs
+pub rows-cons : (n : ℕ) (bs : List ℕ) → rowsFrom 0 (n ∷ bs) ≡ record { word = take n (drop 1 bs); command = getD bs 0 0 } ∷ rowsFrom (n + 1) bs
 unfolding rowsFrom
 rows-cons n bs = refl
 
@@ -75,11 +75,11 @@ rows-count s = rows-from-count 0 s
 
 -- lookup --------------------------------------------------------------------------------------------------------------------------------
 
-lookup-here : (r : Row) (rs : List Row) (w : List ℕ) → same w (r .word) ≡ true → lookupIn (r ∷ rs) w ≡ Named.Command (r .command)
+pub lookup-here : (r : Row) (rs : List Row) (w : List ℕ) → same w (r .word) ≡ true → lookupIn (r ∷ rs) w ≡ Named.Command (r .command)
 unfolding lookupIn
 lookup-here r rs w h = rw (lookupIn, h)
 
-lookup-past : (r : Row) (rs : List Row) (w : List ℕ) → same w (r .word) ≡ false → lookupIn (r ∷ rs) w ≡ lookupIn rs w
+pub lookup-past : (r : Row) (rs : List Row) (w : List ℕ) → same w (r .word) ≡ false → lookupIn (r ∷ rs) w ≡ lookupIn rs w
 unfolding lookupIn
 lookup-past r rs w h = rw (lookupIn, h)
 
