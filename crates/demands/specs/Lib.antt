@@ -5,3 +5,4 @@ pub mod Bound
 pub mod Shortest
 pub mod ShortestLaws
 pub mod Demand3
+pub mod Samples

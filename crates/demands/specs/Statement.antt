@@ -83,8 +83,8 @@ module _ (table : List Row) where
   abbrev pub typed : CommandContext → List ℕ → List ℕ → Answer
   typed x l store = line table x l (length store)
 
-  -- "A prefix as typed is spaces, colons, range, word and bang, with no argument of its own"; its word names a prefix; and it is accepted
-  -- when "typed alone", that is "as a line of its own, on that session and store"
+  -- "A prefix as typed is spaces, colons, range, word and bang, with no argument of its own": so the first reading of the line p says; its
+  -- word names a prefix; and it is accepted when "typed alone", that is "as a line of its own, on that session and store"
   pub record Alone (store p : List ℕ) : Type 0 where
     pub its : CommandDescription
     pub reads : readingOf (trim p) ≡ CommandRead.Command its
