@@ -36,7 +36,8 @@ pub fn ended_by(x: Done, a: usize, e: usize) -> Ended
 pub fn put_end(line: &[u8], end: Ended, store: &mut [u8], classes: &[u8; 256]) -> usize
     requires { ⌜ Classes (now classes) ⌝ }
     requires { ⌜ length (now line) + 40 ≤ length (now store) ⌝ }
-    ensures { λ r. ⌜ Put (now (store .entry)) (now (store .exit)) 0 r (outBytes (endOf (now (line .entry)) end)) ⌝ }
+    ensures put { λ r. ⌜ Put (now (store .entry)) (now (store .exit)) 0 r (outBytes (endOf (now (line .entry)) end)) ⌝ }
+    ensures fits { λ r. ⌜ r ≤ length (now (store .entry)) ⌝ }
 {
     match end {
         Ended::Nothing => put_nothing(store, 0),

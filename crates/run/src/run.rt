@@ -1,7 +1,7 @@
 // The run of a line: input_cmd of commands.rs without what it remembers. It writes nothing.
 use super::end::Ended;
 use super::end::ended_by;
-use aliases::lookup_in;
+use aliases::lookup::lookup_in;
 use commands::handle::handle;
 use commands::next::Next;
 use commands::next::by_name;

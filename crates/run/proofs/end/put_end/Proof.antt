@@ -48,11 +48,14 @@ same-length c = search needs
 
 returns : tie.Need-returns
 unfolding endOf outBytes
-returns c = rw (c .before .before .before .before .enum-told .given .1) (c .before .before .put-nothing .ensures .put)
+returns c = (
+  rw (c .before .before .before .before .enum-told .given .1) (c .before .before .put-nothing .ensures .put),
+  omega (arith, c .before .before .put-nothing .ensures .most, c .before .before .before .before .before .before .before .before .pre .1),
+)
 
 returns-2 : tie.Need-returns-2
 unfolding endOf outBytes
-returns-2 c = rw (c .enum-told2 .given .1) (record { place = refl; store = refl })
+returns-2 c = (rw (c .enum-told2 .given .1) (record { place = refl; store = refl }), omega arith)
 
 same-length-2 : tie.Need-same-length-2
 same-length-2 c = search needs

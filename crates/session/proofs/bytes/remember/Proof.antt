@@ -1,0 +1,26 @@
+-- `bytes::remember` meets its contract.
+-- Assumes nothing.
+use mathlib.Core.Path.{_≡_, _∙_, ap}
+use native.Mathlib.Omega.{arith}
+use lib.Seq.{sets}
+use Rattle.store.specs.Splice.{put-length}
+use Rattle.session.specs.Layout.{remembering}
+use borrow.Author.Needs.{needs}
+use Rattle.session.proofs.bytes.remember.Statement.{statement}
+use Rattle.session.proofs.bytes.remember.Tie as tie
+
+put-two-requires : tie.Need-put-two-requires
+put-two-requires c κs = (omega (arith, c .before .before .before .pre .0), record { fits = omega (arith, c .before .before .before .pre .1) })
+
+put-bytes-requires : tie.Need-put-bytes-requires
+put-bytes-requires c κs = record { fits = omega (arith, c .before .before .before .before .before .before .before .pre .0, c .before .before .before .before .before .before .before .pre .1, put-length (c .before .before .before .put-two .ensures)) }
+
+same-length : tie.Need-same-length
+same-length c = put-length (c .before .before .put-bytes .ensures) ∙ put-length (c .before .before .before .before .before .before .put-two .ensures)
+
+returns : tie.Need-returns
+unfolding remembering
+returns c = c .before .before .put-bytes .ensures .store ∙ ap (λ s. sets s 836 (c .before .before .before .before .before .before .before .before .before .before .args .line .now)) (c .before .before .before .before .before .before .put-two .ensures .store)
+
+pub remember-spec : {M : Type 1} → statement M
+remember-spec = tie.close (tie.spec put-two-requires put-bytes-requires same-length returns)

@@ -1,0 +1,82 @@
+-- The calls on a session that rests in bytes b: what each answers, and what bytes, line and store are afterwards.
+-- Document 01: "99 comes before every other check and changes nothing. Lines are checked 1, 12, 2 .. Aliases: 8, 9, 13." "The remembered
+-- line is set once checks 1, 12 and 2 pass, even if the line is then refused." "Adding one again replaces it." "Reading the remembered
+-- line back copies it to the front of a lent store and answers its byte count, all other bytes unchanged; a store shorter than that line
+-- is refusal 12 and stays untouched." "one call, which checks only the length, writes a fresh session there".
+-- Assumes nothing.
+use mathlib.Core.Bool.{Bool, true, false, cond}
+use mathlib.Core.List.{List}
+use Prim.Native.Nat.{ℕ}
+use lib.Dec.{eqb, leb}
+use lib.ListN.{length}
+use Rattle.context.specs.Context as context
+use Rattle.focus.specs.Focus.{errorNo}
+use Rattle.reading.specs.Alone.{checked, atFront}
+use Rattle.words.specs.Words.{Row, lookupIn}
+use Rattle.words.specs.declared.words.Named.{Named}
+use Rattle.aliases.specs.Good.{isAlias}
+use Rattle.aliases.specs.Add.{insert}
+use Rattle.commands.specs.Run.{outNo, outBytes, Answer}
+use Rattle.commands.specs.Line.{turned, line}
+use Rattle.run.specs.declared.end.Ended.{Ended}
+use Rattle.session.specs.Layout.{Session, fresh, tableOf, lineOf, sessionOf, remembering, aliasing, written, sound}
+use Rattle.session.specs.declared.lent.LineReply.{LineReply}
+
+-- a fresh session ---------------------------------------------------------------------------------------------------------------------------
+
+unfoldable pub freshNo : List ℕ → ℕ
+freshNo b = cond (eqb (length b) 1860) 0 99
+
+unfoldable pub freshBytes : List ℕ → List ℕ
+freshBytes b = cond (eqb (length b) 1860) (written fresh b) b
+
+-- a line ------------------------------------------------------------------------------------------------------------------------------------
+
+-- the number of each way in which a run ends, 0 where it is accepted
+unfoldable pub endNo : Ended → ℕ
+endNo Ended.Nothing = 0
+endNo (Ended.Refused e) = errorNo e
+endNo (Ended.Unknown a e) = 10
+endNo (Ended.Act x a e) = 0
+
+-- an answer in numbers: the refusal or 0, the readings, and how many bytes stand at the front of the store
+unfoldable pub reply : Answer → LineReply
+reply a = record { refusal = outNo (a .out); readings = a .readings; count = length (outBytes (a .out)) }
+
+-- the line l, where the store is so many bytes long
+unfoldable pub lineAnswer : List ℕ → List ℕ → ℕ → Answer
+lineAnswer b l size = cond (sound b) (line (tableOf (sessionOf b)) context.fresh l size) (turned 99)
+
+unfoldable pub lineBytes : List ℕ → List ℕ → ℕ → List ℕ
+lineBytes b l size = cond (sound b) (checked (λ n. b) l size (remembering l b)) b
+
+-- an alias ------------------------------------------------------------------------------------------------------------------------------------
+
+-- "A new alias when 32 are there."
+abbrev isNew : Named → Bool → Bool
+isNew (Named.Command n) b = false
+isNew Named.Unknown b = b
+
+unfoldable pub isFull : List Row → List ℕ → Bool
+isFull rs w = isNew (lookupIn rs w) (leb 32 (length rs))
+
+-- 8, 9, 13
+unfoldable pub addNo : Session → List ℕ → ℕ → ℕ
+addNo s w c = cond (isAlias w) (cond (leb c 27) (cond (isFull (s .rows) w) 13 0) 9) 8
+
+unfoldable pub aliasNo : List ℕ → List ℕ → ℕ → ℕ
+aliasNo b w c = cond (sound b) (addNo (sessionOf b) w c) 99
+
+unfoldable pub aliasBytes : List ℕ → List ℕ → ℕ → List ℕ
+aliasBytes b w c = cond (eqb (aliasNo b w c) 0) (aliasing (insert w c (sessionOf b .rows)) b) b
+
+-- the remembered line -------------------------------------------------------------------------------------------------------------------------
+
+unfoldable pub readBackNo : List ℕ → ℕ → ℕ
+readBackNo b size = cond (sound b) (cond (leb (length (lineOf b)) size) 0 12) 99
+
+unfoldable pub readBackCount : List ℕ → ℕ → ℕ
+readBackCount b size = cond (eqb (readBackNo b size) 0) (length (lineOf b)) 0
+
+unfoldable pub readBackStore : List ℕ → List ℕ → List ℕ
+readBackStore b store = cond (eqb (readBackNo b (length store)) 0) (atFront (lineOf b) store) store
