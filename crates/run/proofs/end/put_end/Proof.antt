@@ -1,11 +1,12 @@
 -- `end::put_end` meets its contract.
 -- Assumes nothing.
 use mathlib.Core.Path.{refl}
+use Prim.Native.Nat.{_≤_}
 use native.Mathlib.Omega.{arith}
 use lib.ListN.{length}
 use Rattle.scan.specs.PartLaws.{part-short}
 use Rattle.actions.specs.Record.{recordOf}
-use Rattle.actions.specs.Within.{named-room}
+use Rattle.actions.specs.Within.{named-room, named-length}
 use Rattle.commands.specs.Run.{outBytes}
 use Rattle.run.specs.End.{endOf}
 use borrow.Author.Needs.{needs}
@@ -63,8 +64,12 @@ same-length-2 c = search needs
 returns-3 : tie.Need-returns-3
 unfolding endOf outBytes
 returns-3 c =
-    rw (c .before .before .before .before .before .before .end .given .1)
-    (rw (c .before .before .before .part .ensures) at (c .before .before .put-name .ensures))
+    let p = c .before .before .before .before .before .before .before .before .before .before in
+    let n : length (c .before .before .before .part .result .now) ≤ length (p .args .line .now) = rw (c .before .before .before .part .ensures) (part-short (p .args .line .now) _ _) in
+    (
+      rw (c .before .before .before .before .before .before .end .given .1) (rw (c .before .before .before .part .ensures) at (c .before .before .put-name .ensures)),
+      omega (arith, c .before .before .put-name .ensures .place, p .pre .1, named-length _ (length (p .args .line .now)) n (omega arith)),
+    )
 
 same-length-3 : tie.Need-same-length-3
 same-length-3 c = search needs
@@ -72,8 +77,12 @@ same-length-3 c = search needs
 returns-4 : tie.Need-returns-4
 unfolding endOf outBytes recordOf
 returns-4 c =
-    rw (c .before .before .before .before .before .before .end2 .given .1)
-    (rw (c .before .before .before .part2 .ensures) at (c .before .before .put-action .ensures .put))
+    let p = c .before .before .before .before .before .before .before .before .before .before in
+    let n : length (c .before .before .before .part2 .result .now) ≤ length (p .args .line .now) = rw (c .before .before .before .part2 .ensures) (part-short (p .args .line .now) _ _) in
+    (
+      rw (c .before .before .before .before .before .before .end2 .given .1) (rw (c .before .before .before .part2 .ensures) at (c .before .before .put-action .ensures .put)),
+      omega (arith, c .before .before .put-action .ensures .most, p .pre .1, n),
+    )
 
 pub put-end-spec : {M : Type 1} → statement M
 put-end-spec =
