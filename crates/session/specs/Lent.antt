@@ -53,7 +53,7 @@ lineBytes b l size = cond (sound b) (checked (λ n. b) l size (remembering l b))
 -- an alias ------------------------------------------------------------------------------------------------------------------------------------
 
 -- "A new alias when 32 are there."
-abbrev isNew : Named → Bool → Bool
+abbrev pub isNew : Named → Bool → Bool
 isNew (Named.Command n) b = false
 isNew Named.Unknown b = b
 

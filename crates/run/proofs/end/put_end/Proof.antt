@@ -6,7 +6,7 @@ use native.Mathlib.Omega.{arith}
 use lib.ListN.{length}
 use Rattle.scan.specs.PartLaws.{part-short}
 use Rattle.actions.specs.Record.{recordOf}
-use Rattle.actions.specs.Within.{named-room, named-length}
+use Rattle.actions.specs.Within.{named-room}
 use Rattle.commands.specs.Run.{outBytes}
 use Rattle.run.specs.End.{endOf}
 use borrow.Author.Needs.{needs}
@@ -65,10 +65,9 @@ returns-3 : tie.Need-returns-3
 unfolding endOf outBytes
 returns-3 c =
     let p = c .before .before .before .before .before .before .before .before .before .before in
-    let n : length (c .before .before .before .part .result .now) ≤ length (p .args .line .now) = rw (c .before .before .before .part .ensures) (part-short (p .args .line .now) _ _) in
-    (
+    let n : length (c .before .before .before .part .result .now) ≤ length (p .args .line .now) = rw (c .before .before .before .part .ensures) (part-short (p .args .line .now) (c .before .before .before .before .before .before .end .given .0 .0) (c .before .before .before .before .before .before .end .given .0 .1 .0)) in (
       rw (c .before .before .before .before .before .before .end .given .1) (rw (c .before .before .before .part .ensures) at (c .before .before .put-name .ensures)),
-      omega (arith, c .before .before .put-name .ensures .place, p .pre .1, named-length _ (length (p .args .line .now)) n (omega arith)),
+      omega (arith, c .before .before .put-name .ensures .place, p .pre .1, named-room {s = p .args .store .now} {at = 0} (c .before .before .before .part .result .now) (length (p .args .line .now)) n (omega arith) (omega (arith, p .pre .1)) .fits),
     )
 
 same-length-3 : tie.Need-same-length-3
@@ -78,8 +77,7 @@ returns-4 : tie.Need-returns-4
 unfolding endOf outBytes recordOf
 returns-4 c =
     let p = c .before .before .before .before .before .before .before .before .before .before in
-    let n : length (c .before .before .before .part2 .result .now) ≤ length (p .args .line .now) = rw (c .before .before .before .part2 .ensures) (part-short (p .args .line .now) _ _) in
-    (
+    let n : length (c .before .before .before .part2 .result .now) ≤ length (p .args .line .now) = rw (c .before .before .before .part2 .ensures) (part-short (p .args .line .now) (c .before .before .before .before .before .before .end2 .given .0 .1 .0) (c .before .before .before .before .before .before .end2 .given .0 .1 .1 .0)) in (
       rw (c .before .before .before .before .before .before .end2 .given .1) (rw (c .before .before .before .part2 .ensures) at (c .before .before .put-action .ensures .put)),
       omega (arith, c .before .before .put-action .ensures .most, p .pre .1, n),
     )

@@ -1,6 +1,16 @@
 -- `lent::add_in` meets its contract.
 -- Assumes nothing.
-use Rattle.session.specs.Layout.{aliasing, areaOf}
+use mathlib.Core.Path.{_≡_, sym, _∙_, ap}
+use Prim.Native.Nat.{ℕ, _≤_}
+use native.Mathlib.Omega.{arith}
+use lib.ListN.{length}
+use lib.Seq.{sets}
+use Rattle.store.specs.Splice.{Put, put-length}
+use Rattle.aliases.specs.Rows.{rowsOf, rowsBytes}
+use Rattle.aliases.specs.Add.{insert}
+use Rattle.aliases.specs.TableLaws.{area-good, alias-length, table-length}
+use Rattle.session.specs.Layout.{two, areaOf, aliasing}
+use Rattle.session.specs.LentLaws.{sound-length, sound-area, place-good, taken}
 use borrow.Author.Needs.{needs}
 use Rattle.session.proofs.lent.add_in.Statement.{statement}
 use Rattle.session.proofs.lent.add_in.Tie as tie
@@ -12,10 +22,23 @@ slice-aggregate-put-with : tie.Need-slice-aggregate-put-with
 slice-aggregate-put-with c = search needs
 
 put-with-requires : tie.Need-put-with-requires
-put-with-requires c κs = ?
+put-with-requires c κs =
+    let a = c .before .before .before .before .before .args in
+    let q = c .before .before .before .before .before .pre in
+    let g = area-good (areaOf (a .b .now)) (sound-area (a .b .now) (q .0)) in
+    let t = place-good (rowsOf (areaOf (a .b .now))) (a .w .now) (a .command) (g .table) (q .1 .0) (q .1 .1 .0) (q .1 .1 .1) in
+    let m = table-length (insert (a .w .now) (a .command) (rowsOf (areaOf (a .b .now)))) t in
+    (rw (c .before .area .ensures) (g .written), (omega (arith, alias-length (a .w .now) (q .1 .0)), rw (c .before .area .ensures) (record { fits = omega (arith, m) })))
 
 put-two-requires : tie.Need-put-two-requires
-put-two-requires c κs = ?
+put-two-requires c κs =
+    let a = c .before .before .before .before .before .before .before .before .args in
+    let q = c .before .before .before .before .before .before .before .before .pre in
+    let g = area-good (areaOf (a .b .now)) (sound-area (a .b .now) (q .0)) in
+    let t = place-good (rowsOf (areaOf (a .b .now))) (a .w .now) (a .command) (g .table) (q .1 .0) (q .1 .1 .0) (q .1 .1 .1) in
+    let m = table-length (insert (a .w .now) (a .command) (rowsOf (areaOf (a .b .now)))) t in
+    let p = rw (c .before .before .before .before .area .ensures) at (c .before .before .put-with .ensures) in
+    (omega (arith, m, p .place), record { fits = omega (arith, sound-length (a .b .now) (q .0)) })
 
 slice-aggregate-part : tie.Need-slice-aggregate-part
 slice-aggregate-part c = search needs
@@ -24,14 +47,31 @@ part-requires : tie.Need-part-requires
 part-requires c κs = search needs
 
 put-bytes-requires : tie.Need-put-bytes-requires
-put-bytes-requires c κs = ?
+put-bytes-requires c κs =
+    let a = c .before .before .before .before .before .before .before .before .before .before .before .before .before .before .args in
+    let q = c .before .before .before .before .before .before .before .before .before .before .before .before .before .before .pre in
+    let g = area-good (areaOf (a .b .now)) (sound-area (a .b .now) (q .0)) in
+    let t = place-good (rowsOf (areaOf (a .b .now))) (a .w .now) (a .command) (g .table) (q .1 .0) (q .1 .1 .0) (q .1 .1 .1) in
+    let m = table-length (insert (a .w .now) (a .command) (rowsOf (areaOf (a .b .now)))) t in
+    let p = rw (c .before .before .before .before .before .before .before .before .before .before .area .ensures) at (c .before .before .before .before .before .before .before .before .put-with .ensures) in
+    record { fits = rw (c .part .ensures, taken p (omega (arith, m, p .place))) (omega (arith, m, sound-length (a .b .now) (q .0), put-length (c .before .before .before .before .before .put-two .ensures))) }
 
 same-length : tie.Need-same-length
-same-length c = search needs
+same-length c = put-length (c .before .before .put-bytes .ensures) ∙ put-length (c .before .before .before .before .before .before .before .before .put-two .ensures)
 
 returns : tie.Need-returns
-unfolding aliasing areaOf
-returns c = rw (c .before .before .put-bytes .ensures, c .before .before .before .part .ensures, c .before .before .before .before .before .before .before .before .put-two .ensures, c .before .before .before .before .before .before .before .before .before .before .before .put-with .ensures, c .before .before .before .before .before .before .before .before .before .before .before .before .before .area .ensures, c .before .before .before .before .before .before .before .before .before .before .before .before .before .before .area-arg .given .1, c .before .before .before .before .before .before .before .before .before .before .before .before .new .given .1, c .before .before .before .before .before .before .before .before .before .before .new2 .given .1, c .before .before .before .before .before .before .before .before .before .put-two-arg .given .1, c .before .before .before .before .before .before .before .b .given .1, c .before .before .before .before .before .put-bytes-arg .given .1, c .before .before .before .before .new3 .given .1, c .before .b2 .given .1)
+unfolding aliasing
+returns c =
+    let a = c .before .before .before .before .before .before .before .before .before .before .before .before .before .before .before .before .before .args in
+    let q = c .before .before .before .before .before .before .before .before .before .before .before .before .before .before .before .before .before .pre in
+    let g = area-good (areaOf (a .b .now)) (sound-area (a .b .now) (q .0)) in
+    let t = place-good (rowsOf (areaOf (a .b .now))) (a .w .now) (a .command) (g .table) (q .1 .0) (q .1 .1 .0) (q .1 .1 .1) in
+    let m = table-length (insert (a .w .now) (a .command) (rowsOf (areaOf (a .b .now)))) t in
+    let p = rw (c .before .before .before .before .before .before .before .before .before .before .before .before .before .area .ensures) at (c .before .before .before .before .before .before .before .before .before .before .before .put-with .ensures) in
+    let v = rw (c .before .before .before .part .ensures, taken p (omega (arith, m, p .place))) at (c .before .before .put-bytes .ensures) in
+    let e : c .before .before .before .before .before .before .before .before .before .before .before .put-with .result ≡ length (rowsBytes (insert (a .w .now) (a .command) (rowsOf (areaOf (a .b .now))))) = omega (arith, p .place) in
+    v .store
+    ∙ ap (λ s. sets s 4 (rowsBytes (insert (a .w .now) (a .command) (rowsOf (areaOf (a .b .now)))))) (c .before .before .before .before .before .before .before .before .put-two .ensures .store ∙ ap (λ (n : ℕ). sets (a .b .now) 2 (two n)) e)
 
 pub add-in-spec : {M : Type 1} → statement M
 add-in-spec =

@@ -1,6 +1,12 @@
 -- `lent::fresh_in` meets its contract.
 -- Assumes nothing.
+use mathlib.Core.Path.{_∙_, ap}
+use native.Mathlib.Omega.{arith}
+use lib.Seq.{sets}
 use borrow.Author.Tests.{eq-eqb, ne-eqb}
+use Rattle.store.specs.Splice.{put-length}
+use Rattle.aliases.specs.Rows.{rowsBytes}
+use Rattle.session.specs.Layout.{two, remembering, aliasing, written}
 use Rattle.session.specs.Lent.{freshNo, freshBytes}
 use borrow.Author.Needs.{needs}
 use Rattle.session.proofs.lent.fresh_in.Statement.{statement}
@@ -8,20 +14,23 @@ use Rattle.session.proofs.lent.fresh_in.Tie as tie
 
 returns : tie.Need-returns
 unfolding freshNo freshBytes
-returns c = rw (ne-eqb _ _ (c .if1 .taken))
+returns c = (rw (ne-eqb _ _ (c .if1 .taken)), rw (ne-eqb _ _ (c .if1 .taken)))
 
 put-two-requires : tie.Need-put-two-requires
-put-two-requires c κs = search needs
+put-two-requires c κs = (omega arith, record { fits = omega (arith, c .before .if1 .left) })
 
 put-two-requires-2 : tie.Need-put-two-requires-2
-put-two-requires-2 c κs = search needs
+put-two-requires-2 c κs = (omega arith, record { fits = omega (arith, c .before .before .before .before .before .if1 .left, put-length (c .before .before .before .put-two .ensures)) })
 
 same-length : tie.Need-same-length
-same-length c = search needs
+same-length c = put-length (c .before .before .put-two2 .ensures) ∙ put-length (c .before .before .before .before .before .before .put-two .ensures)
 
 returns-2 : tie.Need-returns-2
-unfolding freshNo freshBytes
-returns-2 c = rw (c .before .before .put-two2 .ensures, c .before .before .before .before .before .before .put-two .ensures, eq-eqb _ _ (c .before .before .before .before .before .before .before .before .if1 .left), c .before .before .before .before .before .before .before .put-two-arg .given .1, c .before .before .before .before .before .b .given .1, c .before .before .before .put-two-arg2 .given .1, c .before .b2 .given .1)
+unfolding freshNo freshBytes written aliasing remembering rowsBytes
+returns-2 c = (
+  rw (eq-eqb _ _ (c .before .before .before .before .before .before .before .before .if1 .left)),
+  rw (eq-eqb _ _ (c .before .before .before .before .before .before .before .before .if1 .left)) (c .before .before .put-two2 .ensures .store ∙ ap (λ s. sets s 2 (two 0)) (c .before .before .before .before .before .before .put-two .ensures .store)),
+)
 
 pub fresh-in-spec : {M : Type 1} → statement M
 fresh-in-spec =

@@ -1,5 +1,6 @@
 -- `lent::full` meets its contract.
 -- Assumes nothing.
+use mathlib.Core.Path.{sym, _∙_}
 use Rattle.session.specs.Lent.{isFull}
 use borrow.Author.Needs.{needs}
 use Rattle.session.proofs.lent.full.Statement.{statement}
@@ -19,11 +20,11 @@ count-requires c κs = search needs
 
 returns : tie.Need-returns
 unfolding isFull
-returns c = rw (c .before .before .find .ensures, c .enum-told .given .1)
+returns c = rw (sym (c .before .before .find .ensures) ∙ c .enum-told .given .1)
 
 returns-2 : tie.Need-returns-2
 unfolding isFull
-returns-2 c = rw (c .count .ensures, c .before .before .before .find .ensures, c .before .enum-told2 .given .1)
+returns-2 c = rw (c .count .ensures, sym (c .before .before .before .find .ensures) ∙ c .before .enum-told2 .given .1)
 
 pub full-spec : {M : Type 1} → statement M
 full-spec =

@@ -1,8 +1,12 @@
 -- `lent::remembered_in` meets its contract.
 -- Assumes nothing.
-use mathlib.Core.Path.{sym, _∙_}
-use borrow.Author.Tests.{le-ltb, lt-ltb}
+use mathlib.Core.Path.{_≡_, sym, _∙_, ap}
+use native.Mathlib.Omega.{arith}
+use lib.ListN.{length}
+use borrow.Author.Tests.{le-leb, lt-leb, not-true, not-false}
+use Rattle.session.specs.Layout.{lineOf}
 use Rattle.session.specs.Lent.{readBackNo, readBackCount, readBackStore}
+use Rattle.session.specs.LentLaws.{front}
 use borrow.Author.Needs.{needs}
 use Rattle.session.proofs.lent.remembered_in.Statement.{statement}
 use Rattle.session.proofs.lent.remembered_in.Tie as tie
@@ -15,24 +19,29 @@ sound-requires c κs = search needs
 
 returns : tie.Need-returns
 unfolding readBackNo readBackCount readBackStore
-returns c = rw (c .before .before .before .classes .ensures, c .before .before .table .given .1, sym (c .before .sound .ensures) ∙ c .if1 .taken)
+returns c = (rw (sym (c .before .sound .ensures) ∙ not-true _ (c .if1 .taken)), (rw (sym (c .before .sound .ensures) ∙ not-true _ (c .if1 .taken)), rw (sym (c .before .sound .ensures) ∙ not-true _ (c .if1 .taken))))
 
 remembered-requires : tie.Need-remembered-requires
 remembered-requires c κs = search needs
 
 returns-2 : tie.Need-returns-2
 unfolding readBackNo readBackCount readBackStore
-returns-2 c = rw (c .before .remembered .ensures, c .before .before .before .before .before .classes .ensures, c .before .before .before .before .table .given .1, sym (c .before .before .before .sound .ensures) ∙ c .before .before .if1 .left, lt-ltb _ _ (c .if2 .taken))
+returns-2 c = (rw (sym (c .before .before .before .sound .ensures) ∙ not-false _ (c .before .before .if1 .left), lt-leb _ _ (rw (c .before .remembered .ensures) at (c .if2 .taken))), (rw (sym (c .before .before .before .sound .ensures) ∙ not-false _ (c .before .before .if1 .left), lt-leb _ _ (rw (c .before .remembered .ensures) at (c .if2 .taken))), rw (sym (c .before .before .before .sound .ensures) ∙ not-false _ (c .before .before .if1 .left), lt-leb _ _ (rw (c .before .remembered .ensures) at (c .if2 .taken)))))
 
 put-bytes-requires : tie.Need-put-bytes-requires
-put-bytes-requires c κs = search needs
+put-bytes-requires c κs = record { fits = omega (arith, c .before .if2 .left) }
 
 same-length : tie.Need-same-length
 same-length c = search needs
 
 returns-3 : tie.Need-returns-3
 unfolding readBackNo readBackCount readBackStore
-returns-3 c = rw (c .before .before .put-bytes .ensures, c .before .before .before .before .before .remembered .ensures, c .before .before .before .before .before .before .before .before .before .classes .ensures, c .before .before .before .before .before .before .before .before .table .given .1, sym (c .before .before .before .before .before .before .before .sound .ensures) ∙ c .before .before .before .before .before .before .if1 .left, le-ltb _ _ (c .before .before .before .before .if2 .left), c .before .before .before .put-bytes-arg .given .1, c .before .store .given .1)
+returns-3 c =
+    let s = sym (c .before .before .before .before .before .before .before .sound .ensures) ∙ not-false _ (c .before .before .before .before .before .before .if1 .left) in
+    let k = le-leb _ _ (rw (c .before .before .before .before .before .remembered .ensures) at (c .before .before .before .before .if2 .left)) in
+    let p = rw (c .before .before .before .before .before .remembered .ensures) at (c .before .before .put-bytes .ensures) in
+    let n : c .before .before .put-bytes .result ≡ length (lineOf (c .before .before .before .before .before .before .before .before .before .before .before .before .args .b .now)) = omega (arith, p .place) in
+    (rw (s, k), (rw (s, k, n), rw (s, k) (front p (omega (arith, p .place, rw (c .before .before .before .before .before .remembered .ensures) at (c .before .before .before .before .if2 .left))))))
 
 pub remembered-in-spec : {M : Type 1} → statement M
 remembered-in-spec =

@@ -1,6 +1,16 @@
 -- `lent::run_in` meets its contract.
 -- Assumes nothing.
-use Rattle.session.specs.Layout.{reply, tableOf, sessionOf, remembering}
+use mathlib.Core.Path.{_≡_, _∙_, ap}
+use mathlib.Core.List.{_++_}
+use native.Mathlib.Omega.{arith}
+use lib.ListN.{length}
+use Rattle.context.specs.Context as context
+use Rattle.store.specs.Splice.{put-length}
+use Rattle.words.specs.Words.{shipped}
+use Rattle.aliases.specs.Rows.{rowsOf}
+use Rattle.commands.specs.Run.{lineFrom}
+use Rattle.session.specs.Layout.{sessionOf, remembering}
+use Rattle.session.specs.LentLaws.{reply-of, store-of, remember-length}
 use borrow.Author.Needs.{needs}
 use Rattle.session.proofs.lent.run_in.Statement.{statement}
 use Rattle.session.proofs.lent.run_in.Tie as tie
@@ -12,23 +22,28 @@ run-requires : tie.Need-run-requires
 run-requires c κs = search needs
 
 put-end-requires : tie.Need-put-end-requires
-put-end-requires c κs = search needs
+put-end-requires c κs = (search needs, c .before .before .before .before .before .before .before .pre .1 .1 .1)
 
 remember-requires : tie.Need-remember-requires
-remember-requires c κs = search needs
+remember-requires c κs = (c .before .before .before .before .before .before .before .before .before .before .before .pre .1 .1 .0, c .before .before .before .before .before .before .before .before .before .before .before .pre .1 .0)
 
 end-number-requires : tie.Need-end-number-requires
 end-number-requires c κs = search needs
 
 same-length : tie.Need-same-length
-same-length c = search needs
+same-length c = ap length (c .before .before .before .remember .ensures) ∙ remember-length (c .before .before .before .before .before .before .before .before .before .before .before .before .before .before .before .args .line .now) (c .before .before .before .before .before .before .before .before .before .before .before .before .before .before .before .args .b .now)
 
 same-length-2 : tie.Need-same-length-2
-same-length-2 c = search needs
+same-length-2 c = put-length (c .before .before .before .before .before .before .before .put-end .ensures .0)
 
 returns : tie.Need-returns
-unfolding reply tableOf sessionOf remembering
-returns c = rw (c .end-number .ensures, c .before .before .before .remember .ensures, c .before .before .before .before .before .before .before .put-end .ensures, c .before .before .before .before .before .before .before .before .before .run .ensures, c .before .before .before .before .before .before .before .before .before .before .area .ensures, c .before .before .before .before .before .before .before .before .before .before .before .area-arg .given .1, c .before .before .before .before .before .before .before .before .put-end-arg .given .1, c .before .before .before .before .before .before .store .given .1, c .before .before .before .before .remember-arg .given .1, c .before .before .b .given .1)
+unfolding sessionOf
+returns c =
+    let a = c .before .before .before .before .before .before .before .before .before .before .before .before .before .before .before .args in
+    let e = c .before .before .before .before .before .before .before .before .before .run .ensures ∙ ap (λ v. lineFrom (rowsOf v ++ shipped) context.fresh (a .line .now)) (c .before .before .before .before .before .before .before .before .before .before .area .ensures) in (
+      reply-of (a .line .now) (c .before .before .before .before .before .before .before .before .before .run .result) _ _ _ e (c .end-number .ensures) (c .before .before .before .before .before .before .before .put-end .ensures .0 .place),
+      (store-of (a .line .now) (c .before .before .before .before .before .before .before .before .before .run .result) _ e (c .before .before .before .before .before .before .before .put-end .ensures .0) (c .before .before .before .before .before .before .before .put-end .ensures .1), c .before .before .before .remember .ensures),
+    )
 
 pub run-in-spec : {M : Type 1} → statement M
 run-in-spec =

@@ -1,5 +1,6 @@
 -- `numbers::error_number` meets its contract.
 -- Assumes nothing.
+use Rattle.focus.specs.Focus.{errorNo}
 use borrow.Author.Needs.{needs}
 use Rattle.session.proofs.numbers.error_number.Statement.{statement}
 use Rattle.session.proofs.numbers.error_number.Tie as tie
@@ -23,21 +24,27 @@ enum-told-6 : tie.Need-enum-told-6
 enum-told-6 c = search needs
 
 returns : tie.Need-returns
+unfolding errorNo
 returns c = rw (c .enum-told .given .1)
 
 returns-2 : tie.Need-returns-2
+unfolding errorNo
 returns-2 c = rw (c .enum-told2 .given .1)
 
 returns-3 : tie.Need-returns-3
+unfolding errorNo
 returns-3 c = rw (c .enum-told3 .given .1)
 
 returns-4 : tie.Need-returns-4
+unfolding errorNo
 returns-4 c = rw (c .enum-told4 .given .1)
 
 returns-5 : tie.Need-returns-5
+unfolding errorNo
 returns-5 c = rw (c .enum-told5 .given .1)
 
 returns-6 : tie.Need-returns-6
+unfolding errorNo
 returns-6 c = rw (c .enum-told6 .given .1)
 
 pub error-number-spec : {M : Type 1} → statement M

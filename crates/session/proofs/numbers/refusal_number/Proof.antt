@@ -1,5 +1,6 @@
 -- `numbers::refusal_number` meets its contract.
 -- Assumes nothing.
+use Rattle.reading.specs.Alone.{refusalNo}
 use borrow.Author.Needs.{needs}
 use Rattle.session.proofs.numbers.refusal_number.Statement.{statement}
 use Rattle.session.proofs.numbers.refusal_number.Tie as tie
@@ -23,21 +24,27 @@ enum-told-6 : tie.Need-enum-told-6
 enum-told-6 c = search needs
 
 returns : tie.Need-returns
+unfolding refusalNo
 returns c = rw (c .enum-told .given .1)
 
 returns-2 : tie.Need-returns-2
+unfolding refusalNo
 returns-2 c = rw (c .enum-told2 .given .1)
 
 returns-3 : tie.Need-returns-3
+unfolding refusalNo
 returns-3 c = rw (c .enum-told3 .given .1)
 
 returns-4 : tie.Need-returns-4
+unfolding refusalNo
 returns-4 c = rw (c .enum-told4 .given .1)
 
 returns-5 : tie.Need-returns-5
+unfolding refusalNo
 returns-5 c = rw (c .enum-told5 .given .1)
 
 returns-6 : tie.Need-returns-6
+unfolding refusalNo
 returns-6 c = rw (c .enum-told6 .given .1)
 
 pub refusal-number-spec : {M : Type 1} → statement M

@@ -1,0 +1,130 @@
+-- Laws of the calls on a session in bytes, as the code cites them: one for each way in which a call ends.
+-- Assumes nothing.
+use mathlib.Core.Path.{_≡_, refl, sym, _∙_, ap}
+use mathlib.Core.Bool.{Bool, true, false, cond, _&&_}
+use mathlib.Core.List.{List, [], _∷_, _++_}
+use Prim.Native.Nat.{ℕ, _+_, _-_, _≤_}
+use native.Mathlib.Omega.{arith}
+use lib.Dec.{eqb, leb}
+use lib.ListN.{length, take, drop}
+use lib.Seq.{sets, length-sets, take-append-seam}
+use borrow.Author.Tests.{eqb-true, leb-true, leb-false}
+use Rattle.scan.specs.Scan.{partOf}
+use Rattle.scan.specs.Utf8.{isUtf8}
+use Rattle.store.specs.Splice.{Put, sets-front}
+use Rattle.context.specs.Context as context
+use Rattle.reading.specs.Alone.{checked, atFront, refusalNo}
+use Rattle.reading.specs.Checks.{checkOf, check-good, check-bad}
+use Rattle.reading.specs.declared.alone.Checked.{Checked}
+use Rattle.reading.specs.declared.alone.Refusal.{Refusal}
+use Rattle.words.specs.Words.{Row, lookupIn}
+use Rattle.words.specs.declared.words.Named.{Named}
+use Rattle.aliases.specs.Rows.{rowsOf, rowsBytes}
+use Rattle.aliases.specs.Good.{isAlias, goodTable, goodArea}
+use Rattle.aliases.specs.Add.{insert}
+use Rattle.aliases.specs.TableLaws.{both, area-good, table-length, insert-known, insert-new}
+use Rattle.commands.specs.Run.{Out, outNo, outBytes, Answer, lineFrom}
+use Rattle.commands.specs.Line.{turned, line, storeAfter}
+use Rattle.run.specs.End.{endOf, answerOf}
+use Rattle.run.specs.declared.end.Ended.{Ended}
+use Rattle.run.specs.declared.run.Ran.{Ran}
+use Rattle.session.specs.Layout.{two, twoAt, tableOf, areaOf, lineOf, sessionOf, remembering, aliasing, sound}
+use Rattle.session.specs.Lent.{endNo, reply, lineAnswer, lineBytes, isNew, isFull}
+use Rattle.session.specs.declared.lent.LineReply.{LineReply}
+
+-- bytes that some session is written as ---------------------------------------------------------------------------------------------------
+
+pub sound-length : (b : List ℕ) → sound b ≡ true → length b ≡ 1860
+unfolding sound
+sound-length b h =
+    let p = both (eqb (length b) 1860 && leb (twoAt b 0) 1024 && leb (twoAt b 2) 832 && isUtf8 (lineOf b)) (goodArea (areaOf b)) h in
+    let q = both (eqb (length b) 1860 && leb (twoAt b 0) 1024 && leb (twoAt b 2) 832) (isUtf8 (lineOf b)) (p .0) in
+    let r = both (eqb (length b) 1860 && leb (twoAt b 0) 1024) (leb (twoAt b 2) 832) (q .0) in
+    eqb-true (length b) 1860 (both (eqb (length b) 1860) (leb (twoAt b 0) 1024) (r .0) .0)
+
+pub sound-area : (b : List ℕ) → sound b ≡ true → goodArea (areaOf b) ≡ true
+unfolding sound
+sound-area b h = both (eqb (length b) 1860 && leb (twoAt b 0) 1024 && leb (twoAt b 2) 832 && isUtf8 (lineOf b)) (goodArea (areaOf b)) h .1
+
+-- a line --------------------------------------------------------------------------------------------------------------------------------------
+
+pub end-no : (l : List ℕ) (e : Ended) → endNo e ≡ outNo (endOf l e)
+unfolding endNo outNo endOf
+end-no l Ended.Nothing = refl
+end-no l (Ended.Refused e) = refl
+end-no l (Ended.Unknown a e) = refl
+end-no l (Ended.Act x a e) = refl
+
+-- what the run answers, in numbers
+pub reply-of : (l : List ℕ) (r : Ran) (a : Answer) (n k : ℕ) → answerOf l r ≡ a → n ≡ endNo (r .end) → k ≡ 0 + length (outBytes (endOf l (r .end))) →
+    record { refusal = n; readings = r .readings; count = k } ≡ reply a
+unfolding answerOf reply
+reply-of l r a n k e f g =
+    let h : k ≡ length (outBytes (endOf l (r .end))) = omega (arith, g) in
+    ap (λ (m : ℕ). record { refusal = m; readings = r .readings; count = k }) (f ∙ end-no l (r .end))
+    ∙ ap (λ (m : ℕ). record { refusal = outNo (endOf l (r .end)); readings = r .readings; count = m }) h
+    ∙ ap reply e
+
+-- bytes at the front of a store
+pub front : {s s₁ v : List ℕ} {r : ℕ} → Put s s₁ 0 r v → r ≤ length s → s₁ ≡ atFront v s
+unfolding atFront
+front {s} {s₁} {v} p h = p .store ∙ sets-front s v (omega (arith, p .place))
+
+pub store-of : (l : List ℕ) (r : Ran) (a : Answer) {s s₁ : List ℕ} {k : ℕ} → answerOf l r ≡ a → Put s s₁ 0 k (outBytes (endOf l (r .end))) → k ≤ length s → s₁ ≡ storeAfter (a .out) s
+unfolding answerOf storeAfter
+store-of l r a {s} e p h = front p h ∙ ap (λ x. atFront (outBytes (x .out)) s) e
+
+-- nothing is written of a line that is refused before any reading
+pub nothing-written : (n : ℕ) (s : List ℕ) → s ≡ storeAfter (turned n .out) s
+unfolding storeAfter atFront outBytes
+nothing-written n s = refl
+
+pub turned-reply : (n : ℕ) → record { refusal = n; readings = 0; count = 0 } ≡ reply (turned n)
+unfolding reply outNo outBytes
+turned-reply n = refl
+
+module _ (b l : List ℕ) (size : ℕ) where
+  pub line-99 : sound b ≡ false → (lineAnswer b l size ≡ turned 99) × (lineBytes b l size ≡ b)
+  unfolding lineAnswer lineBytes
+  line-99 h = (rw h, rw h)
+
+  pub line-bad : (x : Refusal) → sound b ≡ true → checkOf l size ≡ Checked.Bad x → (lineAnswer b l size ≡ turned (refusalNo x)) × (lineBytes b l size ≡ b)
+  unfolding lineAnswer lineBytes line
+  line-bad x h k = (rw h (check-bad l size x k turned _), rw h (check-bad l size x k (λ n. b) _))
+
+  pub line-good : sound b ≡ true → checkOf l size ≡ Checked.Good → (lineAnswer b l size ≡ lineFrom (tableOf (sessionOf b)) context.fresh l) × (lineBytes b l size ≡ remembering l b)
+  unfolding lineAnswer lineBytes line
+  line-good h k = (rw h (check-good l size k turned _), rw h (check-good l size k (λ n. b) _))
+
+-- a text that passes the checks is short
+pub check-short : (l : List ℕ) (size : ℕ) → checkOf l size ≡ Checked.Good → length l ≤ 1024
+unfolding checkOf
+check-short l size e = go (leb (length l) 1024) (leb (length l + 40) size) (isUtf8 l) refl e
+  where
+    go : (a b c : Bool) → leb (length l) 1024 ≡ a →
+        cond a (cond b (cond c Checked.Good (Checked.Bad Refusal.NotUtf8)) (Checked.Bad Refusal.StoreTooShort)) (Checked.Bad Refusal.LineTooLong) ≡ Checked.Good → length l ≤ 1024
+    go true b c q h = leb-true (length l) 1024 q
+    go false b c q h = let z : _≡_ {A = ℕ} 0 1 = cc in absurd (omega arith)
+
+-- an alias --------------------------------------------------------------------------------------------------------------------------------------
+
+-- there is a place, so the table with the alias is good
+pub place-good : (rs : List Row) (w : List ℕ) (c : ℕ) → goodTable rs ≡ true → isAlias w ≡ true → c ≤ 27 → isFull rs w ≡ false → goodTable (insert w c rs) ≡ true
+unfolding isFull
+place-good rs w c g a k f = go (lookupIn rs w) refl f
+  where
+    go : (m : Named) → lookupIn rs w ≡ m → isNew m (leb 32 (length rs)) ≡ false → goodTable (insert w c rs) ≡ true
+    go (Named.Command n) e h = insert-known w c n rs a k g e
+    go Named.Unknown e h = insert-new w c rs a k g (leb-false 32 (length rs) h)
+
+-- the bytes at the front of what was written
+pub taken : {s s₁ v : List ℕ} {r : ℕ} → Put s s₁ 0 r v → r ≤ length s → partOf s₁ 0 r ≡ v
+taken {s} {s₁} {v} {r} p h =
+    let e : r - 0 ≡ length v = omega (arith, p .place) in
+    let f : s₁ ≡ v ++ drop (length v) s = p .store ∙ sets-front s v (omega (arith, p .place)) in
+    ap (λ x. partOf x 0 r) f ∙ ap (λ (n : ℕ). take n (v ++ drop (length v) s)) e ∙ take-append-seam v (drop (length v) s)
+
+-- lengths stay
+pub remember-length : (l b : List ℕ) → length (remembering l b) ≡ length b
+unfolding remembering
+remember-length l b = length-sets (sets b 0 (two (length l))) 836 l ∙ length-sets b 0 (two (length l))
