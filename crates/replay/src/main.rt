@@ -4,57 +4,56 @@ mod readings;
 mod vectors;
 
 use libc::STDIN_FILENO;
-use lines::Added;
+use lines::Answered;
 use scan::part::part;
+use session::value::Session;
+use session::value::fresh;
 use vectors::Frame;
 use vectors::Tally;
 
-// How far the run is, and the aliases that were added.
+// How far the run is, and the session that goes on from vector to vector.
 struct Replay {
     tally: Tally,
-    added: Added,
+    session: Session,
 }
 
-fn answer(op: u8, added: &[u8], text: &[u8], out: &mut [u8]) -> usize {
+fn answer(s: Session, op: u8, text: &[u8], out: &mut [u8]) -> Answered {
     if op < 3 {
-        return lines::answer(op, added, text, out);
+        return lines::answer(s, op, text, out);
     }
-    readings::answer(op, text, out)
+    Answered {
+        session: s,
+        end: readings::answer(op, text, out),
+    }
 }
 
-fn agrees(op: u8, added: &[u8], text: &[u8], want: &[u8]) -> bool {
+fn replayed(t: Replay, op: u8, text: &[u8], want: &[u8]) -> Replay {
     let mut out = [0u8; 4096];
-    let n = answer(op, added, text, &mut out);
-    check::same(part(&out, 0, n), want)
+    let tally = t.tally;
+    let session = t.session;
+    let answered = answer(session, op, text, &mut out);
+    let next = answered.session;
+    Replay {
+        tally: vectors::counted(tally, check::same(part(&out, 0, answered.end), want)),
+        session: next,
+    }
 }
 
 fn turn(t: Replay) -> Replay {
     let mut text = [0u8; 1024];
     let mut want = [0u8; 4096];
     let tally = t.tally;
-    let added = t.added;
-    let bytes = added.bytes;
+    let session = t.session;
     match vectors::next_vector(STDIN_FILENO, &mut text, &mut want) {
         Frame::End => Replay {
             tally: vectors::finished(tally),
-            added: added,
+            session: session,
         },
         Frame::Broken => Replay {
             tally: vectors::broken(tally),
-            added: added,
+            session: session,
         },
-        Frame::Vector(op, n, m) => Replay {
-            tally: vectors::counted(
-                tally,
-                agrees(
-                    op,
-                    part(&bytes, 0, added.used),
-                    part(&text, 0, n),
-                    part(&want, 0, m),
-                ),
-            ),
-            added: lines::after(added, op, part(&text, 0, n)),
-        },
+        Frame::Vector(op, n, m) => replayed(t, op, part(&text, 0, n), part(&want, 0, m)),
     }
 }
 
@@ -68,7 +67,7 @@ fn main() {
     let mut turns = u64::MAX;
     let mut t = Replay {
         tally: vectors::start(),
-        added: lines::none(),
+        session: fresh(),
     };
     while turns > 0 && more(t) {
         t = turn(t);

@@ -2,3 +2,4 @@
 pub mod bytes;
 pub mod lent;
 pub mod numbers;
+pub mod value;

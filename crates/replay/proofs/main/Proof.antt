@@ -13,8 +13,8 @@ abbrev μ-loop : tie.MeasureT-loop
 start-requires : tie.Need-start-requires Inv-loop μ-loop
 start-requires c κs = search needs
 
-none-requires : tie.Need-none-requires Inv-loop μ-loop
-none-requires c κs = search needs
+fresh-requires : tie.Need-fresh-requires Inv-loop μ-loop
+fresh-requires c κs = search needs
 
 loop-holds : tie.Need-loop-holds Inv-loop μ-loop
 loop-holds c = search needs
@@ -47,7 +47,7 @@ main-spec =
     Inv-loop
     μ-loop
     start-requires
-    none-requires
+    fresh-requires
     loop-holds
     more-requires
     turn-requires
