@@ -1,2 +1,3 @@
 pub mod Layout
+pub mod SetsLaws
 pub mod Lent
