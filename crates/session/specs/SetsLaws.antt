@@ -6,7 +6,7 @@ use mathlib.Core.List.{List, [], _∷_, _++_, append-assoc}
 use Prim.Native.Nat.{ℕ, suc, _+_, _-_, _*_, _/_, _%_, _<_, _≤_}
 use native.Mathlib.Numerals.{add-one}
 use native.Mathlib.Omega.{arith}
-use lib.ListN.{length, take, drop, getD, set, length-set, length-drop, take-append-drop}
+use lib.ListN.{length, take, drop, set, length-set, length-drop, take-append-drop}
 use lib.Seq.{sets, sets-eq, length-take-le, take-add, take-append-seam, drop-at, getD-set-same, getD-set-other, set-getD, take-set-le, drop-set-lt, drop-set-add}
 use Rattle.scan.specs.Scan.{byteAt, partOf}
 use Rattle.session.specs.Layout.{twoAt, two}
