@@ -3,3 +3,4 @@ pub mod SetsLaws
 pub mod Lent
 pub mod SoundLaws
 pub mod LentLaws
+pub mod Demands
