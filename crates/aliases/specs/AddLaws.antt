@@ -1,19 +1,18 @@
 -- Laws of an alias that is added: the bytes of a row, where it goes, and what the rows then are.
 -- Assumes nothing.
 use mathlib.Core.Path.{_≡_, refl, sym, _∙_, ap}
-use mathlib.Core.Bool.{Bool, true, false, cond}
 use mathlib.Core.List.{List, [], _∷_, _++_, append-assoc}
 use Prim.Native.Nat.{ℕ, zero, suc, _+_, _-_, _<_, _≤_}
 use native.Mathlib.Numerals.{add-one}
 use native.Mathlib.Omega.{arith}
-use lib.ListN.{length, take, drop, getD, set, length-set, length-append, drop-of-length-le}
+use lib.ListN.{length, take, drop, set, length-set, drop-of-length-le}
 use lib.Seq.{sets, take-append-seam, drop-append-seam}
 use Rattle.scan.specs.Scan.{byteAt, partOf}
 use Rattle.scan.specs.RunLaws.{drop-step}
 use Rattle.scan.specs.PartLaws.{part-rest}
 use Rattle.store.specs.Splice.{Put, Room}
 use Rattle.words.specs.Words.{Row}
-use Rattle.aliases.specs.Rows.{rowBytes, rowsBytes, rowsFrom, rowsOf}
+use Rattle.aliases.specs.Rows.{rowBytes, rowsBytes, rowsOf}
 use Rattle.aliases.specs.RowsLaws.{row-word, row-rest}
 use Rattle.aliases.specs.Order.{orderOf}
 use Rattle.aliases.specs.Add.{row, insert, placeFrom, placeOf}

@@ -3,8 +3,7 @@
 use mathlib.Core.Path.{_≡_, refl, _∙_, ap}
 use mathlib.Core.Bool.{Bool, true, false, _&&_}
 use mathlib.Core.List.{List, [], _∷_}
-use Prim.Native.Nat.{ℕ, zero, suc, _+_, _-_, _<_, _≤_}
-use native.Mathlib.Omega.{arith}
+use Prim.Native.Nat.{ℕ, zero, suc, _+_, _<_, _≤_}
 use lib.ListN.{length, take, drop, getD, drop-of-length-le}
 use Rattle.scan.specs.Scan.{byteAt, partOf}
 use Rattle.scan.specs.RunLaws.{drop-step}

@@ -1,19 +1,19 @@
 -- Laws of good aliases: their bytes and their rows say the same; there is room for 32 of them; they stay good when one is added; and what
 -- a word then leads to. Document 01, section Session: "Adding one again replaces it."
 -- Assumes nothing.
-use mathlib.Core.Path.{_≡_, refl, sym, _∙_, ap, subst}
+use mathlib.Core.Path.{_≡_, refl, sym, _∙_, ap}
 use mathlib.Core.Bool.{Bool, true, false, cond, _&&_}
 use mathlib.Core.List.{List, [], _∷_, _++_}
-use Prim.Native.Nat.{ℕ, zero, suc, _+_, _-_, _*_, _<_, _≤_}
+use Prim.Native.Nat.{ℕ, zero, suc, _+_, _*_, _<_, _≤_}
 use native.Mathlib.Numerals.{add-one}
 use native.Mathlib.Omega.{arith}
-use lib.ListN.{length, take, drop, getD, length-append, length-drop, take-append-drop}
+use lib.ListN.{length, take, drop, length-append, length-drop, take-append-drop}
 use lib.Seq.{take-append-seam, drop-append-seam, take-nil}
 use lib.Dec.{eqb, leb}
 use borrow.Author.Tests.{eqb-true, leb-true, eq-eqb, le-leb}
 use Rattle.words.specs.Words.{Row, same, lookupIn}
 use Rattle.words.specs.declared.words.Named.{Named}
-use Rattle.aliases.specs.Rows.{rowsFrom, rowsOf, rowBytes, rowsBytes}
+use Rattle.aliases.specs.Rows.{rowsFrom, rowsOf, rowsBytes}
 use Rattle.aliases.specs.RowsLaws.{rows-skip, rows-cons, lookup-here, lookup-past}
 use Rattle.aliases.specs.Order.{orderOf}
 use Rattle.aliases.specs.OrderLaws.{order-flip, order-back, order-eq, order-refl, order-then}

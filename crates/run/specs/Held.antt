@@ -15,7 +15,6 @@ use Rattle.reading.specs.declared.line.CommandDescription.{CommandDescription}
 use Rattle.actions.specs.Record.{paperOf}
 use Rattle.context.specs.Context.{fresh}
 use Rattle.context.specs.declared.context.CommandContext.{CommandContext}
-use Rattle.focus.specs.Focus.{errorNo}
 use Rattle.focus.specs.declared.focus.CommandError.{CommandError}
 use Rattle.handlers.specs.declared.done.Done.{Done}
 use Rattle.words.specs.Words.{Row}

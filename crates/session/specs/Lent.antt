@@ -4,7 +4,7 @@
 -- line back copies it to the front of a lent store and answers its byte count, all other bytes unchanged; a store shorter than that line
 -- is refusal 12 and stays untouched." "one call, which checks only the length, writes a fresh session there".
 -- Assumes nothing.
-use mathlib.Core.Bool.{Bool, true, false, cond}
+use mathlib.Core.Bool.{Bool, false, cond}
 use mathlib.Core.List.{List}
 use Prim.Native.Nat.{ℕ}
 use lib.Dec.{eqb, leb}
@@ -53,7 +53,7 @@ lineBytes b l size = cond (sound b) (checked (λ n. b) l size (remembering l b))
 -- an alias ------------------------------------------------------------------------------------------------------------------------------------
 
 -- "A new alias when 32 are there."
-abbrev pub isNew : Named → Bool → Bool
+abbrev isNew : Named → Bool → Bool
 isNew (Named.Command n) b = false
 isNew Named.Unknown b = b
 

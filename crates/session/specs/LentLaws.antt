@@ -1,50 +1,29 @@
 -- Laws of the calls on a session in bytes, as the code cites them: one for each way in which a call ends.
 -- Assumes nothing.
-use mathlib.Core.Path.{_≡_, refl, sym, _∙_, ap}
-use mathlib.Core.Bool.{Bool, true, false, cond, _&&_}
-use mathlib.Core.List.{List, [], _∷_, _++_}
+use mathlib.Core.Path.{_≡_, refl, _∙_, ap}
+use mathlib.Core.Bool.{Bool, true, false, cond}
+use mathlib.Core.List.{List, _++_}
 use Prim.Native.Nat.{ℕ, _+_, _-_, _≤_}
 use native.Mathlib.Omega.{arith}
-use lib.Dec.{eqb, leb}
+use lib.Dec.{leb}
 use lib.ListN.{length, take, drop}
-use lib.Seq.{sets, length-sets, take-append-seam}
-use borrow.Author.Tests.{eqb-true, leb-true, leb-false}
+use lib.Seq.{take-append-seam}
+use borrow.Author.Tests.{leb-true}
 use Rattle.scan.specs.Scan.{partOf}
 use Rattle.scan.specs.Utf8.{isUtf8}
 use Rattle.store.specs.Splice.{Put, sets-front}
 use Rattle.context.specs.Context as context
-use Rattle.reading.specs.Alone.{checked, atFront, refusalNo}
+use Rattle.reading.specs.Alone.{atFront, refusalNo}
 use Rattle.reading.specs.Checks.{checkOf, check-good, check-bad}
 use Rattle.reading.specs.declared.alone.Checked.{Checked}
 use Rattle.reading.specs.declared.alone.Refusal.{Refusal}
-use Rattle.words.specs.Words.{Row, lookupIn}
-use Rattle.words.specs.declared.words.Named.{Named}
-use Rattle.aliases.specs.Rows.{rowsOf, rowsBytes}
-use Rattle.aliases.specs.Good.{isAlias, goodTable, goodArea}
-use Rattle.aliases.specs.Add.{insert}
-use Rattle.aliases.specs.TableLaws.{both, area-good, table-length, insert-known, insert-new}
-use Rattle.commands.specs.Run.{Out, outNo, outBytes, Answer, lineFrom}
+use Rattle.commands.specs.Run.{outNo, outBytes, Answer, lineFrom}
 use Rattle.commands.specs.Line.{turned, line, storeAfter}
 use Rattle.run.specs.End.{endOf, answerOf}
 use Rattle.run.specs.declared.end.Ended.{Ended}
 use Rattle.run.specs.declared.run.Ran.{Ran}
-use Rattle.session.specs.Layout.{two, twoAt, tableOf, areaOf, lineOf, sessionOf, remembering, aliasing, sound}
-use Rattle.session.specs.Lent.{endNo, reply, lineAnswer, lineBytes, isNew, isFull}
-use Rattle.session.specs.declared.lent.LineReply.{LineReply}
-
--- bytes that some session is written as ---------------------------------------------------------------------------------------------------
-
-pub sound-length : (b : List ℕ) → sound b ≡ true → length b ≡ 1860
-unfolding sound
-sound-length b h =
-    let p = both (eqb (length b) 1860 && leb (twoAt b 0) 1024 && leb (twoAt b 2) 832 && isUtf8 (lineOf b)) (goodArea (areaOf b)) h in
-    let q = both (eqb (length b) 1860 && leb (twoAt b 0) 1024 && leb (twoAt b 2) 832) (isUtf8 (lineOf b)) (p .0) in
-    let r = both (eqb (length b) 1860 && leb (twoAt b 0) 1024) (leb (twoAt b 2) 832) (q .0) in
-    eqb-true (length b) 1860 (both (eqb (length b) 1860) (leb (twoAt b 0) 1024) (r .0) .0)
-
-pub sound-area : (b : List ℕ) → sound b ≡ true → goodArea (areaOf b) ≡ true
-unfolding sound
-sound-area b h = both (eqb (length b) 1860 && leb (twoAt b 0) 1024 && leb (twoAt b 2) 832 && isUtf8 (lineOf b)) (goodArea (areaOf b)) h .1
+use Rattle.session.specs.Layout.{tableOf, sessionOf, remembering, sound}
+use Rattle.session.specs.Lent.{endNo, reply, lineAnswer, lineBytes}
 
 -- a line --------------------------------------------------------------------------------------------------------------------------------------
 
@@ -106,25 +85,9 @@ check-short l size e = go (leb (length l) 1024) (leb (length l + 40) size) (isUt
     go true b c q h = leb-true (length l) 1024 q
     go false b c q h = let z : _≡_ {A = ℕ} 0 1 = cc in absurd (omega arith)
 
--- an alias --------------------------------------------------------------------------------------------------------------------------------------
-
--- there is a place, so the table with the alias is good
-pub place-good : (rs : List Row) (w : List ℕ) (c : ℕ) → goodTable rs ≡ true → isAlias w ≡ true → c ≤ 27 → isFull rs w ≡ false → goodTable (insert w c rs) ≡ true
-unfolding isFull
-place-good rs w c g a k f = go (lookupIn rs w) refl f
-  where
-    go : (m : Named) → lookupIn rs w ≡ m → isNew m (leb 32 (length rs)) ≡ false → goodTable (insert w c rs) ≡ true
-    go (Named.Command n) e h = insert-known w c n rs a k g e
-    go Named.Unknown e h = insert-new w c rs a k g (leb-false 32 (length rs) h)
-
 -- the bytes at the front of what was written
 pub taken : {s s₁ v : List ℕ} {r : ℕ} → Put s s₁ 0 r v → r ≤ length s → partOf s₁ 0 r ≡ v
 taken {s} {s₁} {v} {r} p h =
     let e : r - 0 ≡ length v = omega (arith, p .place) in
     let f : s₁ ≡ v ++ drop (length v) s = p .store ∙ sets-front s v (omega (arith, p .place)) in
     ap (λ x. partOf x 0 r) f ∙ ap (λ (n : ℕ). take n (v ++ drop (length v) s)) e ∙ take-append-seam v (drop (length v) s)
-
--- lengths stay
-pub remember-length : (l b : List ℕ) → length (remembering l b) ≡ length b
-unfolding remembering
-remember-length l b = length-sets (sets b 0 (two (length l))) 836 l ∙ length-sets b 0 (two (length l))

@@ -1,3 +1,7 @@
 pub mod Layout
+pub mod SetsLaws
 pub mod Lent
+pub mod SoundLaws
 pub mod LentLaws
+pub mod KeptLaws
+pub mod Demands

@@ -1,8 +1,7 @@
 -- `add::put_with` meets its contract.
 -- Assumes nothing.
-use mathlib.Core.Path.{_∙_, ap}
-use Rattle.scan.specs.Scan.{partOf}
-use Rattle.store.specs.Splice.{Put, put-then, put-length, room-first, room-next}
+use mathlib.Core.Path.{_∙_}
+use Rattle.store.specs.Splice.{put-then, put-length, room-first, room-next}
 use Rattle.aliases.specs.AddLaws.{insert-bytes}
 use borrow.Author.Needs.{needs}
 use Rattle.aliases.proofs.add.put_with.Statement.{statement}

@@ -1,13 +1,13 @@
 -- `good::good_rows` meets its contract. The invariant: the rows are good if those from i on are, after the word from `from` up to `to`.
 -- Assumes nothing.
-use mathlib.Core.Path.{_≡_, sym, _∙_, ap}
+use mathlib.Core.Path.{_≡_, sym, _∙_}
 use mathlib.Core.List.{[]}
 use Prim.Native.Nat.{_-_}
 use native.Mathlib.Omega.{arith}
 use lib.ListN.{length}
 use borrow.Author.Tests.{not-true, not-false}
 use Rattle.scan.specs.Scan.{partOf}
-use Rattle.aliases.specs.Good.{goodRow, goodFrom}
+use Rattle.aliases.specs.Good.{goodFrom}
 use Rattle.aliases.specs.GoodLaws.{goodAt, good-start, good-end, good-here, good-past, row-tested}
 use borrow.Author.Needs.{needs}
 use Rattle.aliases.proofs.good.good_rows.Statement.{statement}

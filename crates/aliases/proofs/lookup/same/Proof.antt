@@ -2,7 +2,6 @@
 -- Assumes nothing.
 use mathlib.Core.Path.{_≡_, _∙_, sym}
 use Prim.Native.Nat.{_-_}
-use native.Mathlib.Omega.{arith}
 use Rattle.words.specs.Words.{same as sameWord}
 use Rattle.aliases.specs.RowsLaws.{same-lengths, sameAt, same-start, same-end, same-on, same-off}
 use borrow.Author.Needs.{needs}

@@ -5,7 +5,6 @@ use Prim.Native.Nat.{_/_, _%_}
 use native.Mathlib.Omega.{arith}
 use lib.ListN.{length-set}
 use Rattle.aliases.specs.AddLaws.{put-two, length-two}
-use borrow.Author.Needs.{needs}
 use Rattle.session.proofs.bytes.put_two.Statement.{statement}
 use Rattle.session.proofs.bytes.put_two.Tie as tie
 

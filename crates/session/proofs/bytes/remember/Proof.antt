@@ -1,11 +1,10 @@
 -- `bytes::remember` meets its contract.
 -- Assumes nothing.
-use mathlib.Core.Path.{_≡_, _∙_, ap}
+use mathlib.Core.Path.{_∙_, ap}
 use native.Mathlib.Omega.{arith}
 use lib.Seq.{sets}
 use Rattle.store.specs.Splice.{put-length}
 use Rattle.session.specs.Layout.{remembering}
-use borrow.Author.Needs.{needs}
 use Rattle.session.proofs.bytes.remember.Statement.{statement}
 use Rattle.session.proofs.bytes.remember.Tie as tie
 

@@ -4,7 +4,7 @@ use mathlib.Core.Path.{sym, _∙_, ap}
 use borrow.Author.Tests.{eq-eqb, ne-eqb, le-leb, lt-leb, not-true, not-false}
 use Rattle.scan.specs.Utf8.{isUtf8}
 use Rattle.aliases.specs.Good.{goodArea}
-use Rattle.session.specs.Layout.{twoAt, lineOf, areaOf, sound}
+use Rattle.session.specs.Layout.{sound}
 use borrow.Author.Needs.{needs}
 use Rattle.session.proofs.bytes.sound.Statement.{statement}
 use Rattle.session.proofs.bytes.sound.Tie as tie

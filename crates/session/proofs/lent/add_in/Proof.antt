@@ -1,16 +1,17 @@
 -- `lent::add_in` meets its contract.
 -- Assumes nothing.
-use mathlib.Core.Path.{_≡_, sym, _∙_, ap}
-use Prim.Native.Nat.{ℕ, _≤_}
+use mathlib.Core.Path.{_≡_, _∙_, ap}
+use Prim.Native.Nat.{ℕ}
 use native.Mathlib.Omega.{arith}
 use lib.ListN.{length}
 use lib.Seq.{sets}
-use Rattle.store.specs.Splice.{Put, put-length}
+use Rattle.store.specs.Splice.{put-length}
 use Rattle.aliases.specs.Rows.{rowsOf, rowsBytes}
 use Rattle.aliases.specs.Add.{insert}
 use Rattle.aliases.specs.TableLaws.{area-good, alias-length, table-length}
 use Rattle.session.specs.Layout.{two, areaOf, aliasing}
-use Rattle.session.specs.LentLaws.{sound-length, sound-area, place-good, taken}
+use Rattle.session.specs.SoundLaws.{sound-told, insert-good}
+use Rattle.session.specs.LentLaws.{taken}
 use borrow.Author.Needs.{needs}
 use Rattle.session.proofs.lent.add_in.Statement.{statement}
 use Rattle.session.proofs.lent.add_in.Tie as tie
@@ -25,8 +26,8 @@ put-with-requires : tie.Need-put-with-requires
 put-with-requires c κs =
     let a = c .before .before .before .before .before .args in
     let q = c .before .before .before .before .before .pre in
-    let g = area-good (areaOf (a .b .now)) (sound-area (a .b .now) (q .0)) in
-    let t = place-good (rowsOf (areaOf (a .b .now))) (a .w .now) (a .command) (g .table) (q .1 .0) (q .1 .1 .0) (q .1 .1 .1) in
+    let g = area-good (areaOf (a .b .now)) (sound-told (a .b .now) (q .0) .area-rows) in
+    let t = insert-good (a .w .now) (a .command) (rowsOf (areaOf (a .b .now))) (q .1 .0) (q .1 .1 .0) (g .table) (q .1 .1 .1) in
     let m = table-length (insert (a .w .now) (a .command) (rowsOf (areaOf (a .b .now)))) t in
     (rw (c .before .area .ensures) (g .written), (omega (arith, alias-length (a .w .now) (q .1 .0)), rw (c .before .area .ensures) (record { fits = omega (arith, m) })))
 
@@ -34,11 +35,11 @@ put-two-requires : tie.Need-put-two-requires
 put-two-requires c κs =
     let a = c .before .before .before .before .before .before .before .before .args in
     let q = c .before .before .before .before .before .before .before .before .pre in
-    let g = area-good (areaOf (a .b .now)) (sound-area (a .b .now) (q .0)) in
-    let t = place-good (rowsOf (areaOf (a .b .now))) (a .w .now) (a .command) (g .table) (q .1 .0) (q .1 .1 .0) (q .1 .1 .1) in
+    let g = area-good (areaOf (a .b .now)) (sound-told (a .b .now) (q .0) .area-rows) in
+    let t = insert-good (a .w .now) (a .command) (rowsOf (areaOf (a .b .now))) (q .1 .0) (q .1 .1 .0) (g .table) (q .1 .1 .1) in
     let m = table-length (insert (a .w .now) (a .command) (rowsOf (areaOf (a .b .now)))) t in
     let p = rw (c .before .before .before .before .area .ensures) at (c .before .before .put-with .ensures) in
-    (omega (arith, m, p .place), record { fits = omega (arith, sound-length (a .b .now) (q .0)) })
+    (omega (arith, m, p .place), record { fits = omega (arith, sound-told (a .b .now) (q .0) .size) })
 
 slice-aggregate-part : tie.Need-slice-aggregate-part
 slice-aggregate-part c = search needs
@@ -50,11 +51,11 @@ put-bytes-requires : tie.Need-put-bytes-requires
 put-bytes-requires c κs =
     let a = c .before .before .before .before .before .before .before .before .before .before .before .before .before .before .args in
     let q = c .before .before .before .before .before .before .before .before .before .before .before .before .before .before .pre in
-    let g = area-good (areaOf (a .b .now)) (sound-area (a .b .now) (q .0)) in
-    let t = place-good (rowsOf (areaOf (a .b .now))) (a .w .now) (a .command) (g .table) (q .1 .0) (q .1 .1 .0) (q .1 .1 .1) in
+    let g = area-good (areaOf (a .b .now)) (sound-told (a .b .now) (q .0) .area-rows) in
+    let t = insert-good (a .w .now) (a .command) (rowsOf (areaOf (a .b .now))) (q .1 .0) (q .1 .1 .0) (g .table) (q .1 .1 .1) in
     let m = table-length (insert (a .w .now) (a .command) (rowsOf (areaOf (a .b .now)))) t in
     let p = rw (c .before .before .before .before .before .before .before .before .before .before .area .ensures) at (c .before .before .before .before .before .before .before .before .put-with .ensures) in
-    record { fits = rw (c .part .ensures, taken p (omega (arith, m, p .place))) (omega (arith, m, sound-length (a .b .now) (q .0), put-length (c .before .before .before .before .before .put-two .ensures))) }
+    record { fits = rw (c .part .ensures, taken p (omega (arith, m, p .place))) (omega (arith, m, sound-told (a .b .now) (q .0) .size, put-length (c .before .before .before .before .before .put-two .ensures))) }
 
 same-length : tie.Need-same-length
 same-length c = put-length (c .before .before .put-bytes .ensures) ∙ put-length (c .before .before .before .before .before .before .before .before .put-two .ensures)
@@ -64,8 +65,8 @@ unfolding aliasing
 returns c =
     let a = c .before .before .before .before .before .before .before .before .before .before .before .before .before .before .before .before .before .args in
     let q = c .before .before .before .before .before .before .before .before .before .before .before .before .before .before .before .before .before .pre in
-    let g = area-good (areaOf (a .b .now)) (sound-area (a .b .now) (q .0)) in
-    let t = place-good (rowsOf (areaOf (a .b .now))) (a .w .now) (a .command) (g .table) (q .1 .0) (q .1 .1 .0) (q .1 .1 .1) in
+    let g = area-good (areaOf (a .b .now)) (sound-told (a .b .now) (q .0) .area-rows) in
+    let t = insert-good (a .w .now) (a .command) (rowsOf (areaOf (a .b .now))) (q .1 .0) (q .1 .1 .0) (g .table) (q .1 .1 .1) in
     let m = table-length (insert (a .w .now) (a .command) (rowsOf (areaOf (a .b .now)))) t in
     let p = rw (c .before .before .before .before .before .before .before .before .before .before .before .before .before .area .ensures) at (c .before .before .before .before .before .before .before .before .before .before .before .put-with .ensures) in
     let v = rw (c .before .before .before .part .ensures, taken p (omega (arith, m, p .place))) at (c .before .before .put-bytes .ensures) in

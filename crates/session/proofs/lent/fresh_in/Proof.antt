@@ -8,7 +8,6 @@ use Rattle.store.specs.Splice.{put-length}
 use Rattle.aliases.specs.Rows.{rowsBytes}
 use Rattle.session.specs.Layout.{two, remembering, aliasing, written}
 use Rattle.session.specs.Lent.{freshNo, freshBytes}
-use borrow.Author.Needs.{needs}
 use Rattle.session.proofs.lent.fresh_in.Statement.{statement}
 use Rattle.session.proofs.lent.fresh_in.Tie as tie
 

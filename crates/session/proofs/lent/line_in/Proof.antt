@@ -1,12 +1,13 @@
 -- `lent::line_in` meets its contract.
 -- Assumes nothing.
-use mathlib.Core.Path.{_≡_, sym, _∙_, ap}
+use mathlib.Core.Path.{sym, _∙_, ap}
 use lib.ListN.{length}
 use borrow.Author.Tests.{not-true, not-false}
 use Rattle.reading.specs.Checks.{check-room}
 use Rattle.commands.specs.Line.{storeAfter}
 use Rattle.session.specs.Lent.{reply}
-use Rattle.session.specs.LentLaws.{sound-length, nothing-written, turned-reply, line-99, line-bad, line-good, check-short}
+use Rattle.session.specs.SoundLaws.{sound-told}
+use Rattle.session.specs.LentLaws.{nothing-written, turned-reply, line-99, line-bad, line-good, check-short}
 use borrow.Author.Needs.{needs}
 use Rattle.session.proofs.lent.line_in.Statement.{statement}
 use Rattle.session.proofs.lent.line_in.Tie as tie
@@ -36,7 +37,7 @@ run-in-requires : tie.Need-run-in-requires
 run-in-requires c κs =
     let a = c .before .before .before .before .before .before .before .before .before .before .before .before .before .before .args in
     let g = (sym (c .before .before .before .before .before .check .ensures) ∙ c .before .before .before .enum-told .given .1) in
-    (search needs, (sound-length (a .b .now) (sym (c .before .before .before .before .before .before .before .sound .ensures) ∙ not-false _ (c .before .before .before .before .before .before .if1 .left)), (check-short (a .line .now) (length (a .store .now)) g, check-room (a .line .now) (length (a .store .now)) g)))
+    (search needs, (sound-told (a .b .now) (sym (c .before .before .before .before .before .before .before .sound .ensures) ∙ not-false _ (c .before .before .before .before .before .before .if1 .left)) .size, (check-short (a .line .now) (length (a .store .now)) g, check-room (a .line .now) (length (a .store .now)) g)))
 
 enum-known-x : tie.Need-enum-known-x
 enum-known-x c = search needs

@@ -1,16 +1,16 @@
 -- `lent::run_in` meets its contract.
 -- Assumes nothing.
-use mathlib.Core.Path.{_≡_, _∙_, ap}
+use mathlib.Core.Path.{_∙_, ap}
 use mathlib.Core.List.{_++_}
-use native.Mathlib.Omega.{arith}
 use lib.ListN.{length}
 use Rattle.context.specs.Context as context
 use Rattle.store.specs.Splice.{put-length}
 use Rattle.words.specs.Words.{shipped}
 use Rattle.aliases.specs.Rows.{rowsOf}
 use Rattle.commands.specs.Run.{lineFrom}
-use Rattle.session.specs.Layout.{sessionOf, remembering}
-use Rattle.session.specs.LentLaws.{reply-of, store-of, remember-length}
+use Rattle.session.specs.Layout.{sessionOf}
+use Rattle.session.specs.SoundLaws.{remember-size}
+use Rattle.session.specs.LentLaws.{reply-of, store-of}
 use borrow.Author.Needs.{needs}
 use Rattle.session.proofs.lent.run_in.Statement.{statement}
 use Rattle.session.proofs.lent.run_in.Tie as tie
@@ -31,7 +31,7 @@ end-number-requires : tie.Need-end-number-requires
 end-number-requires c κs = search needs
 
 same-length : tie.Need-same-length
-same-length c = ap length (c .before .before .before .remember .ensures) ∙ remember-length (c .before .before .before .before .before .before .before .before .before .before .before .before .before .before .before .args .line .now) (c .before .before .before .before .before .before .before .before .before .before .before .before .before .before .before .args .b .now)
+same-length c = ap length (c .before .before .before .remember .ensures) ∙ remember-size (c .before .before .before .before .before .before .before .before .before .before .before .before .before .before .before .args .line .now) (c .before .before .before .before .before .before .before .before .before .before .before .before .before .before .before .args .b .now)
 
 same-length-2 : tie.Need-same-length-2
 same-length-2 c = put-length (c .before .before .before .before .before .before .before .put-end .ensures .0)

@@ -1,0 +1,90 @@
+-- Every call keeps a session sound, and what the session then is. Document 01: "The remembered line is set once checks 1, 12 and 2 pass,
+-- even if the line is then refused." "99 comes before every other check and changes nothing."
+-- Assumes nothing.
+use mathlib.Core.Path.{_≡_, refl, sym, _∙_}
+use mathlib.Core.Bool.{Bool, true, false, cond}
+use mathlib.Core.List.{List}
+use Prim.Native.Nat.{ℕ, _+_}
+use native.Mathlib.Omega.{arith}
+use lib.Dec.{eqb, leb}
+use lib.ListN.{length}
+use borrow.Author.Tests.{eqb-true, leb-true}
+use Rattle.scan.specs.Utf8.{isUtf8}
+use Rattle.reading.specs.Alone.{checked}
+use Rattle.words.specs.Words.{Row}
+use Rattle.aliases.specs.Good.{isAlias}
+use Rattle.aliases.specs.Add.{insert}
+use Rattle.session.specs.Layout.{fresh, sessionOf, remembering, aliasing, written, sound}
+use Rattle.session.specs.SoundLaws.{ReadAs, fresh-sound, remember-sound, alias-sound}
+use Rattle.session.specs.Lent.{freshBytes, lineBytes, isFull, addNo, aliasNo, aliasBytes}
+
+-- a fresh session ---------------------------------------------------------------------------------------------------------------------------
+
+-- it stands in bytes of the right length, and in no others
+sound-length : (b : List ℕ) → eqb (length b) 1860 ≡ false → sound b ≡ false
+unfolding sound
+sound-length b e = rw e
+
+pub fresh-kept : (b : List ℕ) → sound (freshBytes b) ≡ eqb (length b) 1860
+unfolding freshBytes
+fresh-kept b = go (eqb (length b) 1860) refl
+  where
+    go : (x : Bool) → eqb (length b) 1860 ≡ x → sound (cond x (written fresh b) b) ≡ x
+    go true e = fresh-sound b (eqb-true (length b) 1860 e) .0
+    go false e = sound-length b e
+
+-- a line ------------------------------------------------------------------------------------------------------------------------------------
+
+-- it leaves the aliases, and is remembered exactly where it passes checks 1, 12 and 2
+pub line-read : (b l : List ℕ) (size : ℕ) → sound b ≡ true →
+    ReadAs (lineBytes b l size) (record { rows = sessionOf b .rows; line = checked (λ n. sessionOf b .line) l size l })
+unfolding lineBytes checked
+line-read b l size h = rw h (go (leb (length l) 1024) (leb (length l + 40) size) (isUtf8 l) refl refl)
+  where
+    go : (x y z : Bool) → leb (length l) 1024 ≡ x → isUtf8 l ≡ z →
+        ReadAs (cond x (cond y (cond z (remembering l b) b) b) b) (record { rows = sessionOf b .rows; line = cond x (cond y (cond z l (sessionOf b .line)) (sessionOf b .line)) (sessionOf b .line) })
+    go true true true e f = remember-sound l b h (leb-true (length l) 1024 e) f
+    go true true false e f = (h, refl)
+    go true false z e f = (h, refl)
+    go false y z e f = (h, refl)
+
+pub line-kept : (b l : List ℕ) (size : ℕ) → sound (lineBytes b l size) ≡ sound b
+unfolding lineBytes
+line-kept b l size = go (sound b) refl
+  where
+    go : (x : Bool) → sound b ≡ x → sound (lineBytes b l size) ≡ x
+    go true e = line-read b l size e .0
+    go false e = rw e e
+
+-- an alias ----------------------------------------------------------------------------------------------------------------------------------
+
+-- the answer 0
+alias-zero : (a k f : Bool) → _≡_ {A = ℕ} (cond a (cond k (cond f 13 0) 9) 8) 0 → (a ≡ true) × (k ≡ true) × (f ≡ false)
+alias-zero true true false h = (refl, refl, refl)
+alias-zero true true true h = absurd (omega arith)
+alias-zero true false f h = absurd (omega arith)
+alias-zero false k f h = absurd (omega arith)
+
+-- it leaves the line, and is added exactly where the answer is 0
+pub alias-read : (b w : List ℕ) (c : ℕ) → sound b ≡ true →
+    ReadAs (aliasBytes b w c) (record { rows = cond (eqb (aliasNo b w c) 0) (insert w c (sessionOf b .rows)) (sessionOf b .rows); line = sessionOf b .line })
+unfolding aliasBytes aliasNo addNo
+alias-read b w c h = go (eqb (aliasNo b w c) 0) refl
+  where
+    rs : List Row
+    rs = sessionOf b .rows
+
+    go : (x : Bool) → eqb (aliasNo b w c) 0 ≡ x → ReadAs (cond x (aliasing (insert w c rs) b) b) (record { rows = cond x (insert w c rs) rs; line = sessionOf b .line })
+    go true e =
+        let q : aliasNo b w c ≡ cond (isAlias w) (cond (leb c 27) (cond (isFull rs w) 13 0) 9) 8 = rw h in
+        let t = alias-zero (isAlias w) (leb c 27) (isFull rs w) (sym q ∙ eqb-true (aliasNo b w c) 0 e) in
+        alias-sound w c b h (t .0) (leb-true c 27 (t .1)) (t .2)
+    go false e = (h, refl)
+
+pub alias-kept : (b w : List ℕ) (c : ℕ) → sound (aliasBytes b w c) ≡ sound b
+unfolding aliasBytes aliasNo
+alias-kept b w c = go (sound b) refl
+  where
+    go : (x : Bool) → sound b ≡ x → sound (aliasBytes b w c) ≡ x
+    go true e = alias-read b w c e .0
+    go false e = rw e e
