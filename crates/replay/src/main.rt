@@ -6,23 +6,21 @@ mod vectors;
 use libc::STDIN_FILENO;
 use lines::Answered;
 use scan::part::part;
-use session::value::Session;
-use session::value::fresh;
 use vectors::Frame;
 use vectors::Tally;
 
-// How far the run is, and the session that goes on from vector to vector.
+// How far the run is, and the bytes of the session that goes on from vector to vector.
 struct Replay {
     tally: Tally,
-    session: Session,
+    session: [u8; 1860],
 }
 
-fn answer(s: Session, op: u8, text: &[u8], out: &mut [u8]) -> Answered {
+fn answer(session: [u8; 1860], op: u8, text: &[u8], out: &mut [u8]) -> Answered {
     if op < 3 {
-        return lines::answer(s, op, text, out);
+        return lines::answer(session, op, text, out);
     }
     Answered {
-        session: s,
+        session: session,
         end: readings::answer(op, text, out),
     }
 }
@@ -67,7 +65,7 @@ fn main() {
     let mut turns = u64::MAX;
     let mut t = Replay {
         tally: vectors::start(),
-        session: fresh(),
+        session: lines::fresh(),
     };
     while turns > 0 && more(t) {
         t = turn(t);

@@ -3,5 +3,3 @@ pub mod SetsLaws
 pub mod Lent
 pub mod SoundLaws
 pub mod LentLaws
-pub mod KeptLaws
-pub mod Demands

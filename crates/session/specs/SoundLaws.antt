@@ -3,7 +3,7 @@
 -- (`written-sound`). A line or an alias written over such bytes leaves such bytes, and no other byte changes (`remember-free`, `alias-free`).
 -- Assumes nothing.
 use mathlib.Core.Path.{_≡_, refl, sym, _∙_, ap}
-use mathlib.Core.Bool.{true, false, _&&_}
+use mathlib.Core.Bool.{true, false, _&&_, false≢true}
 use mathlib.Core.List.{List}
 use mathlib.Core.Logic.{_⊎_, inl, inr}
 use Prim.Native.Nat.{ℕ, _+_, _<_, _≤_}
@@ -212,6 +212,10 @@ written-sound s b f e =
       }),
       session-same (ap rowsOf a ∙ rows-read rs) q,
     )
+
+-- what is not taken is what no session is written as
+pub unsound-unwritten : (s : Session) (b c : List ℕ) → sound b ≡ false → WellFormed s → length c ≡ 1860 → written s c ≡ b → ⊥
+unsound-unwritten s b c h f e w = false≢true (sym (ap sound w ∙ h) ∙ written-sound s c f e .0)
 
 -- a fresh session
 fresh-formed : WellFormed fresh

@@ -34,7 +34,7 @@ all-word (x ∷ w) i h = go (isWord x) refl (all-word w (i + 1))
     go true e ih = (e, ih (omega (arith, run-yes isWord i x w e)))
     go false e ih = absurd (omega (arith, run-no isWord i x w e))
 
-alias-told : (w : List ℕ) → isAlias w ≡ true → Alias w
+pub alias-told : (w : List ℕ) → isAlias w ≡ true → Alias w
 unfolding isAlias runAt
 alias-told w h =
     let k = both (leb 1 (length w) && leb (length w) 24) (eqb (runAt isWord w 0) (length w)) h in

@@ -1,0 +1,4 @@
+pub mod Kept
+pub mod Free
+pub mod Demands
+pub mod Bytes
