@@ -10,11 +10,11 @@ use Rattle.actions.specs.declared.action.Side.{Side}
 use Rattle.context.specs.declared.context.CommandContext.{CommandContext}
 use Rattle.focus.specs.declared.focus.CommandError.{CommandError}
 use Rattle.handlers.specs.Close.{closeOf, onlyOf, quitOf, quitallOf, tabcloseOf, tabonlyOf, tabfirstOf, tablastOf}
-use Rattle.handlers.specs.Tabs.{tabmoveOf, tabnextOf, tabprevOf}
 use Rattle.handlers.specs.declared.done.Done.{Done}
 use Rattle.reading.specs.declared.line.CommandDescription.{CommandDescription}
+use Rattle.resize.specs.Resize.{resizeOf}
+use Rattle.tabs.specs.Tabs.{tabmoveOf, tabnextOf, tabprevOf}
 use Rattle.windows.specs.Open.{splitOf, vsplitOf, viewOf, tabeditOf}
-use Rattle.windows.specs.Resize.{resizeOf}
 use Rattle.windows.specs.Write.{writeOf, wallOf}
 use Rattle.commands.specs.declared.next.Role.{Role}
 

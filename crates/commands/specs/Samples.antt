@@ -23,10 +23,10 @@ use Rattle.focus.specs.Focus.{errorNo, toward, placed, endFocus, rangeFocus, fo
 use Rattle.words.specs.Words.{aliases, names, shipped, same, lookupIn}
 use Rattle.context.specs.Context.{fresh}
 use Rattle.handlers.specs.Close.{forced, quitting, closeOne, closeOthers, closeTab, closeOtherTabs}
-use Rattle.handlers.specs.Tabs.{unargued, argued, either, tabRange, focusing, moving, nextBy, tabnextOf, backEnd, back, prevBy, tabprevOf, moveArgument, moveRange, tabmoveOf}
+use Rattle.tabs.specs.Tabs.{unargued, argued, either, tabRange, focusing, moving, nextBy, tabnextOf, backEnd, back, prevBy, tabprevOf, moveArgument, moveRange, tabmoveOf}
+use Rattle.resize.specs.Resize.{exactBy, stepped, stepBy, endChange, rangeChange, changeBy, changeOf, resizeAt, resizeBy, resizeOf}
 use Rattle.windows.specs.One.{onlyOf, onlyItem}
 use Rattle.windows.specs.Open.{targetOf, openedBy, opened, opening, viewing, sizedBy, sizeOf, windowTarget, windowBy, splitOf, vsplitOf, switchBy, viewOf, tabAt, tabBy, tabeditOf}
-use Rattle.windows.specs.Resize.{exactBy, stepped, stepBy, endChange, rangeChange, changeBy, changeOf, resizeAt, resizeBy, resizeOf}
 use Rattle.windows.specs.Write.{writing, writeAs, writeBy, writeOf, wallOf}
 use Rattle.commands.specs.Handle.{roleOf, handleOf}
 use Rattle.commands.specs.Run.{byFocus, byRole, byName, byReading, decide, change, Out, outNo, outBytes, Answer, once, doneOut, trim, step, run, runOn, lineFrom}

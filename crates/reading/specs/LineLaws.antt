@@ -1,53 +1,23 @@
 -- A reading taken apart and put together, and where its parts stand.
 -- Assumes nothing.
-use mathlib.Core.Path.{_≡_, refl, _∙_, sym, ap, subst}
+use mathlib.Core.Path.{_≡_, refl, _∙_, ap, subst}
 use mathlib.Core.Bool.{Bool, true, false, cond, not, _||_}
-use mathlib.Core.List.{List, [], _∷_}
-use Prim.Native.Nat.{ℕ, suc, _+_, _-_, _<_, _≤_}
+use mathlib.Core.List.{List}
+use Prim.Native.Nat.{ℕ, _+_, _<_, _≤_}
 use native.Mathlib.Omega.{arith}
-use native.Mathlib.Decide.{decLt}
 use lib.Dec.{eqb, leb}
 use borrow.Author.Tests.{eqb-true, eq-eqb}
-use lib.ListN.{length, getD, drop, length-drop}
-use lib.Seq.{getD-drop}
+use lib.ListN.{length}
 use Rattle.scan.specs.Bytes.{isSpace, isColon, isWord, isText}
-use Rattle.scan.specs.Scan.{runFrom, runAt, byteAt}
+use Rattle.scan.specs.Scan.{runAt, byteAt}
 use Rattle.ranges.specs.Range.{rangeAt}
 use Rattle.reading.specs.Line.{skipByte, wordAt, restAt, afterWord, afterRange, startOf, readingOf}
-use Rattle.scan.specs.RunLaws.{run-yes, run-no, run-le, runAt-le, runAt-within, runAt-off, runAt-end, byte-inside}
+use Rattle.scan.specs.RunLaws.{runAt-le, runAt-within, runAt-ends, runAt-starts, byte-inside}
 use Rattle.ranges.specs.Bounds.{In, RangeIn, rangeAt-in}
 use Rattle.ranges.specs.declared.range.RangeRead.{RangeRead}
 use Rattle.reading.specs.declared.line.WordRead.{WordRead}
 use Rattle.reading.specs.declared.line.CommandDescription.{CommandDescription}
 use Rattle.reading.specs.declared.line.CommandRead.{CommandRead}
-
--- the byte at which a run ends, and the byte at which it starts
-module _ (f : ℕ → Bool) where
-  run-ends : (xs : List ℕ) (i : ℕ) → runFrom f i xs < i + length xs → f (getD xs (runFrom f i xs - i) 0) ≡ false
-  unfolding runFrom
-  run-ends [] i h = absurd (omega arith)
-  run-ends (b ∷ bs) i h = go (f b) refl (run-ends bs (i + 1))
-    where
-      go : (c : Bool) → f b ≡ c → (runFrom f (i + 1) bs < i + 1 + length bs → f (getD bs (runFrom f (i + 1) bs - (i + 1)) 0) ≡ false) → f (getD (b ∷ bs) (runFrom f i (b ∷ bs) - i) 0) ≡ false
-      go true e ih =
-          let q : runFrom f i (b ∷ bs) - i ≡ suc (runFrom f (i + 1) bs - (i + 1)) = omega (arith, run-yes f i b bs e, run-le f (i + 1) bs) in
-          rw q (ih (omega (arith, run-yes f i b bs e)))
-      go false e ih = let q : runFrom f i (b ∷ bs) - i ≡ 0 = omega (arith, run-no f i b bs e) in rw q e
-
-  pub runAt-ends : (s : List ℕ) (i : ℕ) → runAt f s i < length s → f (getD s (runAt f s i) 0) ≡ false
-  unfolding runAt
-  runAt-ends s i h =
-      let e : i + (runFrom f i (drop i s) - i) ≡ runFrom f i (drop i s) = omega (arith, run-le f i (drop i s)) in
-      ap f (sym (getD-drop i s (runFrom f i (drop i s) - i) 0 ∙ ap (λ (n : ℕ). getD s n 0) e))
-      ∙ run-ends (drop i s) i (omega (arith, length-drop i s, run-le f i (drop i s)))
-
-  pub runAt-starts : (s : List ℕ) (i : ℕ) → i < runAt f s i → f (getD s i 0) ≡ true
-  runAt-starts s i h = go (f (getD s i 0)) (decLt i (length s)) refl
-    where
-      go : (c : Bool) → Dec (i < length s) → f (getD s i 0) ≡ c → c ≡ true
-      go true d e = refl
-      go false (yes k) e = absurd (omega (arith, runAt-off f s i k e))
-      go false (no k) e = absurd (omega (arith, runAt-end f s i (omega arith)))
 
 -- past one byte
 pub skip-in : (s : List ℕ) (k b : ℕ) → 0 < b → k ≤ length s → In k (length s) (skipByte s k b)

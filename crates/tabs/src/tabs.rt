@@ -1,0 +1,202 @@
+// The handlers that go to a tab or move one, by a range before the word or as the argument.
+use actions::action::Action;
+use actions::action::Count;
+use actions::action::FocusChange;
+use actions::action::TabAction;
+use focus::focus::CommandError;
+use focus::focus::Focused;
+use focus::focus::range_to_fc;
+use handlers::done::Done;
+use ranges::range::MoveDir1D;
+use ranges::range::RangeEnding;
+use ranges::range::RangeEndingType;
+use ranges::range::RangeRead;
+use ranges::range::RangeSpec;
+use ranges::range::WholeRead;
+use ranges::range::parse_whole_range;
+use reading::line::CommandDescription;
+use scan::part::part;
+ghost use mathlib.Core.Path.{_≡_};
+ghost use Rattle.scan.specs.Bytes.{Classes};
+ghost use Rattle.tabs.specs.Tabs.{unargued as unarguedOf, argued as arguedOf, tabRange, focusing, moving, back as backOf, backEnd, nextBy, tabnextOf, prevBy, tabprevOf, moveArgument, moveRange, tabmoveOf};
+
+// The range of a command that takes it before its word or as its argument.
+pub enum TabRange {
+    Absent,
+    InLine(RangeSpec),
+    InArgument(RangeSpec),
+    Refused(CommandError),
+}
+
+fn unargued(g: RangeRead) -> TabRange
+    ensures { λ r. ⌜ r ≡ unarguedOf g ⌝ }
+{
+    match g {
+        RangeRead::Found(x, _) => TabRange::InLine(x),
+        RangeRead::Absent => TabRange::Absent,
+        RangeRead::TooLarge => TabRange::Refused(CommandError::NumberTooLarge),
+    }
+}
+
+fn argued(w: WholeRead) -> TabRange
+    ensures { λ r. ⌜ r ≡ arguedOf w ⌝ }
+{
+    match w {
+        WholeRead::Range(x) => TabRange::InArgument(x),
+        WholeRead::Bad => TabRange::Refused(CommandError::InvalidArgument),
+        WholeRead::TooLarge => TabRange::Refused(CommandError::NumberTooLarge),
+    }
+}
+
+fn tab_range(g: RangeRead, a: &[u8], classes: &[u8; 256]) -> TabRange
+    requires { ⌜ Classes (now classes) ⌝ }
+    ensures { λ r. ⌜ r ≡ tabRange g (now (a .entry)) ⌝ }
+{
+    if a.len() == 0 {
+        return unargued(g);
+    }
+    match g {
+        RangeRead::Found(_, _) => TabRange::Refused(CommandError::InvalidArgument),
+        RangeRead::Absent => argued(parse_whole_range(a, classes)),
+        RangeRead::TooLarge => TabRange::Refused(CommandError::NumberTooLarge),
+    }
+}
+
+fn focused(x: Focused) -> Done
+    ensures { λ r. ⌜ r ≡ focusing x ⌝ }
+{
+    match x {
+        Focused::To(c) => Done::Act(Action::Tab(TabAction::Focus(c))),
+        Focused::Refused(e) => Done::Refused(e),
+    }
+}
+
+fn moved(x: Focused) -> Done
+    ensures { λ r. ⌜ r ≡ moving x ⌝ }
+{
+    match x {
+        Focused::To(c) => Done::Act(Action::Tab(TabAction::Move(c))),
+        Focused::Refused(e) => Done::Refused(e),
+    }
+}
+
+fn next_by(s: &[u8], a: &[u8], g: TabRange, classes: &[u8; 256]) -> Done
+    requires { ⌜ Classes (now classes) ⌝ }
+    ensures { λ r. ⌜ r ≡ nextBy (now (s .entry)) (now (a .entry)) g ⌝ }
+{
+    match g {
+        TabRange::Absent => Done::Act(Action::Tab(TabAction::Focus(FocusChange::Direction1D(
+            MoveDir1D::Next,
+            Count::Contextual,
+            true,
+        )))),
+        TabRange::InLine(x) => focused(range_to_fc(s, x, true, classes)),
+        TabRange::InArgument(x) => focused(range_to_fc(a, x, true, classes)),
+        TabRange::Refused(e) => Done::Refused(e),
+    }
+}
+
+pub fn vim_cmd_tabnext(s: &[u8], d: CommandDescription, classes: &[u8; 256]) -> Done
+    requires { ⌜ Classes (now classes) ⌝ }
+    ensures { λ r. ⌜ r ≡ tabnextOf (now (s .entry)) d ⌝ }
+{
+    let g = d.range;
+    let a = part(s, d.argument, d.stop);
+    next_by(s, a, tab_range(g, a, classes), classes)
+}
+
+// Digits alone go back as many tabs.
+fn back_end(e: RangeEnding) -> Done
+    ensures { λ r. ⌜ r ≡ backEnd (e .atom) (e .from) (e .to) ⌝ }
+{
+    let a = e.atom;
+    let from = e.from;
+    let to = e.to;
+    match a {
+        RangeEndingType::Absolute(n) => {
+            if from == to {
+                return Done::Act(Action::Tab(TabAction::Focus(FocusChange::Direction1D(
+                    MoveDir1D::Previous,
+                    Count::Exact(n),
+                    true,
+                ))));
+            }
+            Done::Refused(CommandError::InvalidRange)
+        }
+        RangeEndingType::Unspecified => Done::Refused(CommandError::InvalidRange),
+        RangeEndingType::Current => Done::Refused(CommandError::InvalidRange),
+        RangeEndingType::Last => Done::Refused(CommandError::InvalidRange),
+        RangeEndingType::All => Done::Refused(CommandError::InvalidRange),
+        RangeEndingType::Search(_) => Done::Refused(CommandError::InvalidRange),
+        RangeEndingType::SubPatSearch => Done::Refused(CommandError::InvalidRange),
+        RangeEndingType::Mark(_) => Done::Refused(CommandError::InvalidRange),
+    }
+}
+
+fn back(g: RangeSpec) -> Done
+    ensures { λ r. ⌜ r ≡ backOf g ⌝ }
+{
+    match g {
+        RangeSpec::Single(e) => back_end(e),
+        RangeSpec::Double(_, _, _) => Done::Refused(CommandError::InvalidRange),
+    }
+}
+
+fn prev_by(g: TabRange) -> Done
+    ensures { λ r. ⌜ r ≡ prevBy g ⌝ }
+{
+    match g {
+        TabRange::Absent => Done::Act(Action::Tab(TabAction::Focus(FocusChange::Direction1D(
+            MoveDir1D::Previous,
+            Count::Contextual,
+            true,
+        )))),
+        TabRange::InLine(x) => back(x),
+        TabRange::InArgument(x) => back(x),
+        TabRange::Refused(e) => Done::Refused(e),
+    }
+}
+
+pub fn vim_cmd_tabprev(s: &[u8], d: CommandDescription, classes: &[u8; 256]) -> Done
+    requires { ⌜ Classes (now classes) ⌝ }
+    ensures { λ r. ⌜ r ≡ tabprevOf (now (s .entry)) d ⌝ }
+{
+    let g = d.range;
+    prev_by(tab_range(g, part(s, d.argument, d.stop), classes))
+}
+
+fn move_argument(a: &[u8], w: WholeRead, classes: &[u8; 256]) -> Focused
+    requires { ⌜ Classes (now classes) ⌝ }
+    ensures { λ r. ⌜ r ≡ moveArgument (now (a .entry)) w ⌝ }
+{
+    match w {
+        WholeRead::Range(x) => range_to_fc(a, x, false, classes),
+        WholeRead::Bad => Focused::Refused(CommandError::ParseFailed),
+        WholeRead::TooLarge => Focused::Refused(CommandError::NumberTooLarge),
+    }
+}
+
+// The range before the word wins, and the argument is then not looked at.
+fn move_range(s: &[u8], g: RangeRead, a: &[u8], classes: &[u8; 256]) -> Focused
+    requires { ⌜ Classes (now classes) ⌝ }
+    ensures { λ r. ⌜ r ≡ moveRange (now (s .entry)) g (now (a .entry)) ⌝ }
+{
+    match g {
+        RangeRead::Found(x, _) => range_to_fc(s, x, false, classes),
+        RangeRead::TooLarge => Focused::Refused(CommandError::NumberTooLarge),
+        RangeRead::Absent => {
+            if a.len() == 0 {
+                return Focused::To(FocusChange::End);
+            }
+            move_argument(a, parse_whole_range(a, classes), classes)
+        }
+    }
+}
+
+pub fn vim_cmd_tabmove(s: &[u8], d: CommandDescription, classes: &[u8; 256]) -> Done
+    requires { ⌜ Classes (now classes) ⌝ }
+    ensures { λ r. ⌜ r ≡ tabmoveOf (now (s .entry)) d ⌝ }
+{
+    let g = d.range;
+    moved(move_range(s, g, part(s, d.argument, d.stop), classes))
+}
