@@ -16,7 +16,7 @@ struct Replay {
 }
 
 fn answer(session: [u8; 1860], op: u8, text: &[u8], out: &mut [u8]) -> Answered {
-    if op < 3 {
+    if op < 3 || 7 < op {
         return lines::answer(session, op, text, out);
     }
     Answered {
@@ -38,7 +38,7 @@ fn replayed(t: Replay, op: u8, text: &[u8], want: &[u8]) -> Replay {
 }
 
 fn turn(t: Replay) -> Replay {
-    let mut text = [0u8; 1024];
+    let mut text = [0u8; 1028];
     let mut want = [0u8; 4096];
     let tally = t.tally;
     let session = t.session;

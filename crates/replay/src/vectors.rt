@@ -20,7 +20,8 @@ fn wide(b: u8) -> usize {
     b as usize
 }
 
-fn pair(low: u8, high: u8) -> usize {
+// The number in two bytes, the low byte first.
+pub fn pair(low: u8, high: u8) -> usize {
     wide(low) | (wide(high) << 8)
 }
 
