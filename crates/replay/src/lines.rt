@@ -85,7 +85,12 @@ fn pair(text: &[u8]) -> usize {
 fn answer_sized(before: [u8; 1860], text: &[u8], out: &mut [u8]) -> Answered {
     let mut session = before;
     let mut store = [0xAAu8; 2048];
-    let reply = line_on(&mut session, part(text, 2, text.len()), &mut store, pair(text));
+    let reply = line_on(
+        &mut session,
+        part(text, 2, text.len()),
+        &mut store,
+        pair(text),
+    );
     let a = vectors::put_number(out, 0, reply.refusal);
     let b = vectors::put_number(out, a, reply.readings);
     let c = vectors::put_bytes(out, b, part(&store, 0, reply.count as usize));
