@@ -6,12 +6,19 @@ use actions::action::TabAction;
 use actions::action::Target;
 use actions::action::WindowAction;
 use actions::flags::CloseFlags;
+use focus::focus::CommandError;
 use focus::focus::Focused;
 use focus::focus::window_range_target;
 use reading::line::CommandDescription;
 ghost use mathlib.Core.Path.{_≡_};
 ghost use Rattle.scan.specs.Bytes.{Classes};
-ghost use Rattle.handlers.specs.Close.{forced as forcedOf, quitting as quittingOf, closeOne, closeOthers, closeTab, closeOtherTabs, closeOf, onlyOf, quitOf, quitallOf, tabcloseOf, tabonlyOf, tabfirstOf, tablastOf};
+ghost use Rattle.handlers.specs.Close.{forced as forcedOf, quitting as quittingOf, oneOf, othersOf, closeWindows, closeTabs, closeOf, onlyOf, quitOf, quitallOf, tabcloseOf, tabonlyOf, tabfirstOf, tablastOf};
+
+// What is closed, or a refusal.
+pub enum Closed {
+    At(Target),
+    Refused(CommandError),
+}
 
 fn forced(bang: bool) -> CloseFlags
     ensures { λ r. ⌜ r ≡ forcedOf bang ⌝ }
@@ -31,39 +38,39 @@ fn quitting(bang: bool) -> CloseFlags
     CloseFlags::QUIT
 }
 
-fn close_one(f: CloseFlags, x: Focused) -> Done
-    ensures { λ r. ⌜ r ≡ closeOne f x ⌝ }
+fn one(x: Focused) -> Closed
+    ensures { λ r. ⌜ r ≡ oneOf x ⌝ }
 {
     match x {
-        Focused::To(c) => Done::Act(Action::Window(WindowAction::Close(Target::Single(c), f))),
-        Focused::Refused(e) => Done::Refused(e),
+        Focused::To(c) => Closed::At(Target::Single(c)),
+        Focused::Refused(e) => Closed::Refused(e),
     }
 }
 
-fn close_others(f: CloseFlags, x: Focused) -> Done
-    ensures { λ r. ⌜ r ≡ closeOthers f x ⌝ }
+fn others(x: Focused) -> Closed
+    ensures { λ r. ⌜ r ≡ othersOf x ⌝ }
 {
     match x {
-        Focused::To(c) => Done::Act(Action::Window(WindowAction::Close(Target::AllBut(c), f))),
-        Focused::Refused(e) => Done::Refused(e),
+        Focused::To(c) => Closed::At(Target::AllBut(c)),
+        Focused::Refused(e) => Closed::Refused(e),
     }
 }
 
-fn close_tab(f: CloseFlags, x: Focused) -> Done
-    ensures { λ r. ⌜ r ≡ closeTab f x ⌝ }
+fn close_windows(f: CloseFlags, x: Closed) -> Done
+    ensures { λ r. ⌜ r ≡ closeWindows f x ⌝ }
 {
     match x {
-        Focused::To(c) => Done::Act(Action::Tab(TabAction::Close(Target::Single(c), f))),
-        Focused::Refused(e) => Done::Refused(e),
+        Closed::At(t) => Done::Act(Action::Window(WindowAction::Close(t, f))),
+        Closed::Refused(e) => Done::Refused(e),
     }
 }
 
-fn close_other_tabs(f: CloseFlags, x: Focused) -> Done
-    ensures { λ r. ⌜ r ≡ closeOtherTabs f x ⌝ }
+fn close_tabs(f: CloseFlags, x: Closed) -> Done
+    ensures { λ r. ⌜ r ≡ closeTabs f x ⌝ }
 {
     match x {
-        Focused::To(c) => Done::Act(Action::Tab(TabAction::Close(Target::AllBut(c), f))),
-        Focused::Refused(e) => Done::Refused(e),
+        Closed::At(t) => Done::Act(Action::Tab(TabAction::Close(t, f))),
+        Closed::Refused(e) => Done::Refused(e),
     }
 }
 
@@ -72,7 +79,7 @@ pub fn vim_cmd_close(s: &[u8], d: CommandDescription, classes: &[u8; 256]) -> Do
     ensures { λ r. ⌜ r ≡ closeOf (now (s .entry)) d ⌝ }
 {
     let g = d.range;
-    close_one(forced(d.bang), window_range_target(s, g, classes))
+    close_windows(forced(d.bang), one(window_range_target(s, g, classes)))
 }
 
 pub fn vim_cmd_only(s: &[u8], d: CommandDescription, classes: &[u8; 256]) -> Done
@@ -80,7 +87,7 @@ pub fn vim_cmd_only(s: &[u8], d: CommandDescription, classes: &[u8; 256]) -> Don
     ensures { λ r. ⌜ r ≡ onlyOf (now (s .entry)) d ⌝ }
 {
     let g = d.range;
-    close_others(quitting(d.bang), window_range_target(s, g, classes))
+    close_windows(quitting(d.bang), others(window_range_target(s, g, classes)))
 }
 
 pub fn vim_cmd_quit(s: &[u8], d: CommandDescription, classes: &[u8; 256]) -> Done
@@ -88,7 +95,7 @@ pub fn vim_cmd_quit(s: &[u8], d: CommandDescription, classes: &[u8; 256]) -> Don
     ensures { λ r. ⌜ r ≡ quitOf (now (s .entry)) d ⌝ }
 {
     let g = d.range;
-    close_one(quitting(d.bang), window_range_target(s, g, classes))
+    close_windows(quitting(d.bang), one(window_range_target(s, g, classes)))
 }
 
 pub fn vim_cmd_quitall(d: CommandDescription) -> Done
@@ -102,7 +109,7 @@ pub fn vim_cmd_tabclose(s: &[u8], d: CommandDescription, classes: &[u8; 256]) ->
     ensures { λ r. ⌜ r ≡ tabcloseOf (now (s .entry)) d ⌝ }
 {
     let g = d.range;
-    close_tab(quitting(d.bang), window_range_target(s, g, classes))
+    close_tabs(quitting(d.bang), one(window_range_target(s, g, classes)))
 }
 
 pub fn vim_cmd_tabonly(s: &[u8], d: CommandDescription, classes: &[u8; 256]) -> Done
@@ -110,7 +117,7 @@ pub fn vim_cmd_tabonly(s: &[u8], d: CommandDescription, classes: &[u8; 256]) -> 
     ensures { λ r. ⌜ r ≡ tabonlyOf (now (s .entry)) d ⌝ }
 {
     let g = d.range;
-    close_other_tabs(quitting(d.bang), window_range_target(s, g, classes))
+    close_tabs(quitting(d.bang), others(window_range_target(s, g, classes)))
 }
 
 pub fn vim_cmd_tabfirst() -> Done

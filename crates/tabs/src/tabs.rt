@@ -80,19 +80,19 @@ fn moved(x: Focused) -> Done
     }
 }
 
-fn next_by(s: &[u8], a: &[u8], g: TabRange, classes: &[u8; 256]) -> Done
+fn next_by(s: &[u8], a: &[u8], g: TabRange, classes: &[u8; 256]) -> Focused
     requires { ⌜ Classes (now classes) ⌝ }
     ensures { λ r. ⌜ r ≡ nextBy (now (s .entry)) (now (a .entry)) g ⌝ }
 {
     match g {
-        TabRange::Absent => Done::Act(Action::Tab(TabAction::Focus(FocusChange::Direction1D(
+        TabRange::Absent => Focused::To(FocusChange::Direction1D(
             MoveDir1D::Next,
             Count::Contextual,
             true,
-        )))),
-        TabRange::InLine(x) => focused(range_to_fc(s, x, true, classes)),
-        TabRange::InArgument(x) => focused(range_to_fc(a, x, true, classes)),
-        TabRange::Refused(e) => Done::Refused(e),
+        )),
+        TabRange::InLine(x) => range_to_fc(s, x, true, classes),
+        TabRange::InArgument(x) => range_to_fc(a, x, true, classes),
+        TabRange::Refused(e) => Focused::Refused(e),
     }
 }
 
@@ -102,11 +102,11 @@ pub fn vim_cmd_tabnext(s: &[u8], d: CommandDescription, classes: &[u8; 256]) -> 
 {
     let g = d.range;
     let a = part(s, d.argument, d.stop);
-    next_by(s, a, tab_range(g, a, classes), classes)
+    focused(next_by(s, a, tab_range(g, a, classes), classes))
 }
 
 // Digits alone go back as many tabs.
-fn back_end(e: RangeEnding) -> Done
+fn back_end(e: RangeEnding) -> Focused
     ensures { λ r. ⌜ r ≡ backEnd (e .atom) (e .from) (e .to) ⌝ }
 {
     let a = e.atom;
@@ -115,45 +115,45 @@ fn back_end(e: RangeEnding) -> Done
     match a {
         RangeEndingType::Absolute(n) => {
             if from == to {
-                return Done::Act(Action::Tab(TabAction::Focus(FocusChange::Direction1D(
+                return Focused::To(FocusChange::Direction1D(
                     MoveDir1D::Previous,
                     Count::Exact(n),
                     true,
-                ))));
+                ));
             }
-            Done::Refused(CommandError::InvalidRange)
+            Focused::Refused(CommandError::InvalidRange)
         }
-        RangeEndingType::Unspecified => Done::Refused(CommandError::InvalidRange),
-        RangeEndingType::Current => Done::Refused(CommandError::InvalidRange),
-        RangeEndingType::Last => Done::Refused(CommandError::InvalidRange),
-        RangeEndingType::All => Done::Refused(CommandError::InvalidRange),
-        RangeEndingType::Search(_) => Done::Refused(CommandError::InvalidRange),
-        RangeEndingType::SubPatSearch => Done::Refused(CommandError::InvalidRange),
-        RangeEndingType::Mark(_) => Done::Refused(CommandError::InvalidRange),
+        RangeEndingType::Unspecified => Focused::Refused(CommandError::InvalidRange),
+        RangeEndingType::Current => Focused::Refused(CommandError::InvalidRange),
+        RangeEndingType::Last => Focused::Refused(CommandError::InvalidRange),
+        RangeEndingType::All => Focused::Refused(CommandError::InvalidRange),
+        RangeEndingType::Search(_) => Focused::Refused(CommandError::InvalidRange),
+        RangeEndingType::SubPatSearch => Focused::Refused(CommandError::InvalidRange),
+        RangeEndingType::Mark(_) => Focused::Refused(CommandError::InvalidRange),
     }
 }
 
-fn back(g: RangeSpec) -> Done
+fn back(g: RangeSpec) -> Focused
     ensures { λ r. ⌜ r ≡ backOf g ⌝ }
 {
     match g {
         RangeSpec::Single(e) => back_end(e),
-        RangeSpec::Double(_, _, _) => Done::Refused(CommandError::InvalidRange),
+        RangeSpec::Double(_, _, _) => Focused::Refused(CommandError::InvalidRange),
     }
 }
 
-fn prev_by(g: TabRange) -> Done
+fn prev_by(g: TabRange) -> Focused
     ensures { λ r. ⌜ r ≡ prevBy g ⌝ }
 {
     match g {
-        TabRange::Absent => Done::Act(Action::Tab(TabAction::Focus(FocusChange::Direction1D(
+        TabRange::Absent => Focused::To(FocusChange::Direction1D(
             MoveDir1D::Previous,
             Count::Contextual,
             true,
-        )))),
+        )),
         TabRange::InLine(x) => back(x),
         TabRange::InArgument(x) => back(x),
-        TabRange::Refused(e) => Done::Refused(e),
+        TabRange::Refused(e) => Focused::Refused(e),
     }
 }
 
@@ -162,7 +162,7 @@ pub fn vim_cmd_tabprev(s: &[u8], d: CommandDescription, classes: &[u8; 256]) -> 
     ensures { λ r. ⌜ r ≡ tabprevOf (now (s .entry)) d ⌝ }
 {
     let g = d.range;
-    prev_by(tab_range(g, part(s, d.argument, d.stop), classes))
+    focused(prev_by(tab_range(g, part(s, d.argument, d.stop), classes)))
 }
 
 fn move_argument(a: &[u8], w: WholeRead, classes: &[u8; 256]) -> Focused

@@ -11,12 +11,15 @@ forced-requires c κs = search needs
 window-range-target-requires : tie.Need-window-range-target-requires
 window-range-target-requires c κs = search needs
 
-close-one-requires : tie.Need-close-one-requires
-close-one-requires c κs = search needs
+one-requires : tie.Need-one-requires
+one-requires c κs = search needs
+
+close-windows-requires : tie.Need-close-windows-requires
+close-windows-requires c κs = search needs
 
 returns : tie.Need-returns
-returns c = rw (c .close-one .ensures, c .before .window-range-target .ensures, c .before .before .forced .ensures)
+returns c = rw (c .close-windows .ensures, c .before .one .ensures, c .before .before .window-range-target .ensures, c .before .before .before .forced .ensures)
 
 pub vim-cmd-close-spec : {M : Type 1} → statement M
 vim-cmd-close-spec =
-    tie.close (tie.spec forced-requires window-range-target-requires close-one-requires returns)
+    tie.close (tie.spec forced-requires window-range-target-requires one-requires close-windows-requires returns)

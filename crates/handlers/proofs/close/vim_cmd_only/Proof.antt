@@ -11,13 +11,16 @@ quitting-requires c κs = search needs
 window-range-target-requires : tie.Need-window-range-target-requires
 window-range-target-requires c κs = search needs
 
-close-others-requires : tie.Need-close-others-requires
-close-others-requires c κs = search needs
+others-requires : tie.Need-others-requires
+others-requires c κs = search needs
+
+close-windows-requires : tie.Need-close-windows-requires
+close-windows-requires c κs = search needs
 
 returns : tie.Need-returns
-returns c = rw (c .close-others .ensures, c .before .window-range-target .ensures, c .before .before .quitting .ensures)
+returns c = rw (c .close-windows .ensures, c .before .others .ensures, c .before .before .window-range-target .ensures, c .before .before .before .quitting .ensures)
 
 pub vim-cmd-only-spec : {M : Type 1} → statement M
 vim-cmd-only-spec =
     tie.close
-    (tie.spec quitting-requires window-range-target-requires close-others-requires returns)
+    (tie.spec quitting-requires window-range-target-requires others-requires close-windows-requires returns)

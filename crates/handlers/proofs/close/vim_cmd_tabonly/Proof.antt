@@ -11,13 +11,16 @@ quitting-requires c κs = search needs
 window-range-target-requires : tie.Need-window-range-target-requires
 window-range-target-requires c κs = search needs
 
-close-other-tabs-requires : tie.Need-close-other-tabs-requires
-close-other-tabs-requires c κs = search needs
+others-requires : tie.Need-others-requires
+others-requires c κs = search needs
+
+close-tabs-requires : tie.Need-close-tabs-requires
+close-tabs-requires c κs = search needs
 
 returns : tie.Need-returns
-returns c = rw (c .close-other-tabs .ensures, c .before .window-range-target .ensures, c .before .before .quitting .ensures)
+returns c = rw (c .close-tabs .ensures, c .before .others .ensures, c .before .before .window-range-target .ensures, c .before .before .before .quitting .ensures)
 
 pub vim-cmd-tabonly-spec : {M : Type 1} → statement M
 vim-cmd-tabonly-spec =
     tie.close
-    (tie.spec quitting-requires window-range-target-requires close-other-tabs-requires returns)
+    (tie.spec quitting-requires window-range-target-requires others-requires close-tabs-requires returns)

@@ -14,17 +14,11 @@ enum-known-g c = search needs
 range-to-fc-requires : tie.Need-range-to-fc-requires
 range-to-fc-requires c κs = search needs
 
-focused-requires : tie.Need-focused-requires
-focused-requires c κs = search needs
-
 enum-known-g-2 : tie.Need-enum-known-g-2
 enum-known-g-2 c = search needs
 
 range-to-fc-requires-2 : tie.Need-range-to-fc-requires-2
 range-to-fc-requires-2 c κs = search needs
-
-focused-requires-2 : tie.Need-focused-requires-2
-focused-requires-2 c κs = search needs
 
 enum-known-g-3 : tie.Need-enum-known-g-3
 enum-known-g-3 c = search needs
@@ -35,11 +29,11 @@ returns c = rw (c .enum-told .given .1)
 
 returns-2 : tie.Need-returns-2
 unfolding nextBy
-returns-2 c = rw (c .focused .ensures, c .before .range-to-fc .ensures, c .before .before .before .g .given .1)
+returns-2 c = rw (c .range-to-fc .ensures, c .before .before .g .given .1)
 
 returns-3 : tie.Need-returns-3
 unfolding nextBy
-returns-3 c = rw (c .focused2 .ensures, c .before .range-to-fc2 .ensures, c .before .before .before .g2 .given .1)
+returns-3 c = rw (c .range-to-fc2 .ensures, c .before .before .g2 .given .1)
 
 returns-4 : tie.Need-returns-4
 unfolding nextBy
@@ -52,10 +46,8 @@ next-by-spec =
     enum-told
     enum-known-g
     range-to-fc-requires
-    focused-requires
     enum-known-g-2
     range-to-fc-requires-2
-    focused-requires-2
     enum-known-g-3
     returns
     returns-2

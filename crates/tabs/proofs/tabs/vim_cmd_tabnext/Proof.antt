@@ -14,10 +14,13 @@ tab-range-requires c κs = search needs
 next-by-requires : tie.Need-next-by-requires
 next-by-requires c κs = search needs
 
+focused-requires : tie.Need-focused-requires
+focused-requires c κs = search needs
+
 returns : tie.Need-returns
 unfolding tabnextOf
-returns c = rw (c .next-by .ensures, c .before .tab-range .ensures, c .before .before .part .ensures)
+returns c = rw (c .focused .ensures, c .before .next-by .ensures, c .before .before .tab-range .ensures, c .before .before .before .part .ensures)
 
 pub vim-cmd-tabnext-spec : {M : Type 1} → statement M
 vim-cmd-tabnext-spec =
-    tie.close (tie.spec part-requires tab-range-requires next-by-requires returns)
+    tie.close (tie.spec part-requires tab-range-requires next-by-requires focused-requires returns)

@@ -14,10 +14,13 @@ tab-range-requires c κs = search needs
 prev-by-requires : tie.Need-prev-by-requires
 prev-by-requires c κs = search needs
 
+focused-requires : tie.Need-focused-requires
+focused-requires c κs = search needs
+
 returns : tie.Need-returns
 unfolding tabprevOf
-returns c = rw (c .prev-by .ensures, c .before .tab-range .ensures, c .before .before .part .ensures)
+returns c = rw (c .focused .ensures, c .before .prev-by .ensures, c .before .before .tab-range .ensures, c .before .before .before .part .ensures)
 
 pub vim-cmd-tabprev-spec : {M : Type 1} → statement M
 vim-cmd-tabprev-spec =
-    tie.close (tie.spec part-requires tab-range-requires prev-by-requires returns)
+    tie.close (tie.spec part-requires tab-range-requires prev-by-requires focused-requires returns)
