@@ -215,7 +215,7 @@ same-refl [] = refl
 same-refl (x ∷ w) = rw (eq-eqb x x refl) (same-refl w)
 
 -- a word that stands among good rows comes after the word before them
-known-after : (w : List ℕ) (n : ℕ) (before : List ℕ) (rs : List Row) → goodRows before rs ≡ true → lookupIn rs w ≡ Named.Command n → orderOf before w ≡ Order.Less
+pub known-after : (w : List ℕ) (n : ℕ) (before : List ℕ) (rs : List Row) → goodRows before rs ≡ true → lookupIn rs w ≡ Named.Command n → orderOf before w ≡ Order.Less
 unfolding goodRows lookupIn
 known-after w n before [] h e = let z : _≡_ {A = ℕ} 0 1 = cc in absurd (omega arith)
 known-after w n before (r ∷ rs) h e =

@@ -2,3 +2,4 @@ pub mod Kept
 pub mod Free
 pub mod Demands
 pub mod Bytes
+pub mod Same
