@@ -1,29 +1,7 @@
-//! The oracle: modalkit's Ex command line, compiled unchanged, answering vectors. See README.md.
-
-// util.rs imports crossterm::event, for which standin::event stands in.
-extern crate self as crossterm;
-
-mod answer;
-mod arguments;
-mod exhaustive;
-mod generate;
-mod product;
-mod record;
-mod refusal;
-mod session;
-mod source;
-mod standin;
-mod stats;
-mod tasks;
-#[cfg(test)]
-mod tests;
-mod vector;
-
-// The compiled files name their neighbours from the crate's root.
-use source::{command, commands, util};
-use standin::{actions, editing, event, key, prelude};
-
+//! The oracle's program: see README.md.
 use std::process::ExitCode;
+
+use oracle::{arguments, tasks};
 
 fn main() -> ExitCode {
     let task = match arguments::Task::from_arguments(std::env::args().skip(1)) {

@@ -12,7 +12,7 @@ use lib.Dec.{leb}
 use lib.ListN.{length}
 use Rattle.scan.specs.PartLaws.{part-first}
 use Rattle.scan.specs.Scan.{byteAt, partOf}
-use Rattle.scan.specs.Utf8.{isUtf8}
+use Rattle.utf8.specs.Utf8.{isUtf8}
 use Rattle.reading.specs.Alone.{checked}
 use Rattle.reading.specs.Line.{argumentOf}
 use Rattle.reading.specs.LineLaws.{word-bang}

@@ -13,8 +13,8 @@ use borrow.Author.Tests.{le-leb, ne-eqb}
 use Rattle.scan.specs.Bytes.{isSpace}
 use Rattle.scan.specs.PartLaws.{part-length, part-append, part-rest}
 use Rattle.scan.specs.Scan.{runAt, partOf}
-use Rattle.scan.specs.Utf8.{isUtf8}
-use Rattle.scan.specs.Utf8Laws.{utf8-behind}
+use Rattle.utf8.specs.Utf8.{isUtf8}
+use Rattle.utf8.specs.Utf8Laws.{utf8-behind}
 use Rattle.scan.specs.RunLaws.{runAt-inside}
 use Rattle.reading.specs.Alone.{checked}
 use Rattle.reading.specs.Behind.{NoNewline, noNewline-append, noNewline-drop, behind, reading-behind}

@@ -11,7 +11,7 @@ use lib.ListN.{replicate}
 use Rattle.scan.specs.Ascii.{ascii}
 use Rattle.scan.specs.Bytes.{isSpace, isColon, isDigit, isWord, isMark, isText}
 use Rattle.scan.specs.Scan.{runFrom, runAt, valueFrom, digitsFrom, digitsAt}
-use Rattle.scan.specs.Utf8.{isUtf8, utf8At, utf8From, utf8Step, followers, lowest, highest}
+use Rattle.utf8.specs.Utf8.{isUtf8, utf8At, utf8From, utf8Step, followers, lowest, highest}
 use Rattle.ranges.specs.Range.{isSign, escapedAtom, markAtom, signAtom, numberOr, atomAt, offsetsFrom, offsetsAt, withOffsets, afterAtom, endingAt, double, afterFirst, rangeAt}
 use Rattle.reading.specs.Alone.{checked}
 use Rattle.reading.specs.Line.{skipByte, wordAt, restAt, afterWord, afterRange, startOf, readingOf}

@@ -8,7 +8,7 @@ use mathlib.Core.List.{List, [], _∷_, _++_}
 use Prim.Native.Nat.{ℕ, _+_, _≤_, _/_}
 use lib.ListN.{length}
 use Rattle.scan.specs.Scan.{partOf}
-use Rattle.scan.specs.Utf8.{isUtf8}
+use Rattle.utf8.specs.Utf8.{isUtf8}
 use Rattle.ranges.specs.declared.range.RangeRead.{RangeRead}
 use Rattle.reading.specs.Line.{readingOf}
 use Rattle.reading.specs.Behind.{NoNewline}

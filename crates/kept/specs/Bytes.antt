@@ -12,8 +12,8 @@ use lib.ListN.{length, set}
 use lib.Seq.{sets}
 use borrow.Author.Tests.{le-leb, lt-leb, ne-eqb}
 use Rattle.scan.specs.Bytes.{within, isWord}
-use Rattle.scan.specs.Utf8.{Pending, Step, followers, lowest, highest, utf8Step, utf8From, utf8At, whole, isUtf8}
-use Rattle.scan.specs.Utf8Laws.{next-step, bad-step}
+use Rattle.utf8.specs.Utf8.{Pending, Step, followers, lowest, highest, utf8Step, utf8From, utf8At, whole, isUtf8}
+use Rattle.utf8.specs.Utf8Laws.{next-step, bad-step}
 use Rattle.words.specs.Words.{Row}
 use Rattle.aliases.specs.Rows.{rowsBytes}
 use Rattle.aliases.specs.Good.{goodRow, goodRows, goodTable}

@@ -12,7 +12,7 @@ use lib.Dec.{eqb, leb}
 use lib.ListN.{length, drop, length-take, length-drop}
 use lib.Seq.{ext-getD, getD-take, getD-drop}
 use Rattle.scan.specs.Scan.{byteAt, partOf}
-use Rattle.scan.specs.Utf8.{isUtf8}
+use Rattle.utf8.specs.Utf8.{isUtf8}
 use Rattle.reading.specs.Alone.{checked}
 use Rattle.aliases.specs.Rows.{rowsBytes}
 use Rattle.aliases.specs.Add.{insert}

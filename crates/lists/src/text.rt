@@ -1,9 +1,9 @@
 // The text of an item, quoted or plain.
 // Beside parse_quote and parse_text of parse.rs: runs of bytes that stand for themselves, and escapes between them.
+use blocks::run::long_run_end;
 use scan::classes::Kind;
 use scan::part::byte_at;
 use scan::part::part;
-use scan::run::long_run_end;
 use store::put_bytes;
 ghost use mathlib.Core.Path.{_≡_};
 ghost use mathlib.Core.Bool.{cond};

@@ -9,7 +9,7 @@ use reading::alone::StringsReply;
 use reading::line::CommandRead;
 
 fn by_utf8(text: &[u8]) -> u64 {
-    if scan::utf8::is_utf8(text) { 1 } else { 0 }
+    if utf8::utf8::is_utf8(text) { 1 } else { 0 }
 }
 
 fn by_reading(text: &[u8]) -> u64 {

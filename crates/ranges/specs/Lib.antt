@@ -1,3 +1,4 @@
 pub mod Range
 pub mod Bounds
 pub mod Stable
+pub mod WordLaws

@@ -211,7 +211,7 @@ fn double(l: RangeEnding, p: RangeSearchInit, r: EndingRead) -> RangeRead
 }
 
 // The range at `at`, if there is one.
-pub fn parse_range(s: &[u8], at: usize, classes: &[u8; 256]) -> RangeRead
+fn parse_any_range(s: &[u8], at: usize, classes: &[u8; 256]) -> RangeRead
     requires { ⌜ Classes (now classes) ⌝ }
     ensures { λ r. ⌜ r ≡ rangeAt (now (s .entry)) at ⌝ }
 {
@@ -239,6 +239,17 @@ pub fn parse_range(s: &[u8], at: usize, classes: &[u8; 256]) -> RangeRead
     } else {
         RangeRead::Found(RangeSpec::Single(l), to)
     }
+}
+
+// The range at `at`. Where a word starts there is none, which is told by its first byte.
+pub fn parse_range(s: &[u8], at: usize, classes: &[u8; 256]) -> RangeRead
+    requires { ⌜ Classes (now classes) ⌝ }
+    ensures { λ r. ⌜ r ≡ rangeAt (now (s .entry)) at ⌝ }
+{
+    if is_kind(classes, Kind::Word, byte_at(s, at)) {
+        return RangeRead::Absent;
+    }
+    parse_any_range(s, at, classes)
 }
 
 fn whole(n: usize, g: RangeRead) -> WholeRead

@@ -9,7 +9,7 @@ use lib.ListN.{replicate}
 use Rattle.scan.specs.Ascii.{ascii}
 use Rattle.scan.specs.Bytes.{isSpace, isColon, isDigit, isWord, isMark, isText, isPlain, isQuoted}
 use Rattle.scan.specs.Scan.{runFrom, runAt, valueFrom, digitsFrom, digitsAt, partOf}
-use Rattle.scan.specs.Utf8.{isUtf8, utf8At, utf8From, utf8Step, followers, lowest, highest}
+use Rattle.utf8.specs.Utf8.{isUtf8, utf8At, utf8From, utf8Step, followers, lowest, highest}
 use Rattle.ranges.specs.Range.{isSign, escapedAtom, markAtom, signAtom, numberOr, atomAt, offsetsFrom, offsetsAt, withOffsets, afterAtom, endingAt, double, afterFirst, rangeAt, wholeOf, wholeRange}
 use Rattle.lists.specs.Text.{quotedEscape, plainEscape, escapeOf, own, stopAt, textEndFrom, textEndAt, bytesFrom, bytesAt}
 use Rattle.lists.specs.Lists.{itemOf, itemAt, textAt, also, itemsFrom, itemsAt, itemsOf, Filename, lone, filenameOf, Option, keyOf, afterKey, plusPlus, flagOf, optionOf, isEmpty, keyless, anyKeyless}

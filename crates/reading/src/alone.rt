@@ -11,7 +11,7 @@ use ranges::range::RangeSpec;
 use ranges::range::WholeRead;
 use ranges::range::parse_whole_range;
 use scan::classes::classes;
-use scan::utf8::is_utf8;
+use utf8::utf8::is_utf8;
 ghost use mathlib.Core.Path.{_≡_};
 ghost use Prim.Native.Nat.{_≤_};
 ghost use lib.ListN.{length};

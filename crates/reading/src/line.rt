@@ -1,5 +1,7 @@
 // One reading of a text: range, word, bang and where the argument stands.
 // Beside parse_cmd_name, parse_cmd_argument, parse_cmd_descr and parse of parse.rs.
+use blocks::run::skip_spaces;
+use blocks::text::text_stop;
 use ranges::range::RangeRead;
 use ranges::range::parse_range;
 use scan::classes::Kind;
@@ -7,8 +9,6 @@ use scan::classes::classes;
 use scan::part::byte_at;
 use scan::part::part;
 use scan::run::run_end;
-use scan::run::skip_spaces;
-use scan::run::text_stop;
 use scan::run::word_end;
 ghost use mathlib.Core.Path.{_≡_};
 ghost use Prim.Native.Nat.{_<_};

@@ -2,6 +2,8 @@
 use super::end::Ended;
 use super::end::ended_by;
 use aliases::lookup::lookup_in;
+use blocks::run::skip_spaces;
+use blocks::text::text_stop;
 use commands::handle::handle;
 use commands::next::Next;
 use commands::next::by_name;
@@ -11,8 +13,6 @@ use focus::focus::CommandError;
 use reading::line::CommandRead;
 use reading::line::parse_cmd_descr;
 use scan::part::part;
-use scan::run::skip_spaces;
-use scan::run::text_stop;
 ghost use mathlib.Core.Path.{_≡_};
 ghost use mathlib.Core.List.{_++_};
 ghost use Rattle.scan.specs.Bytes.{Classes, isText};

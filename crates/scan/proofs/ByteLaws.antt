@@ -1,10 +1,9 @@
--- A fact about bytes, proved by one test that antt computes at each of the 256; and the table's rule, by one test at each of its entries;
--- and the larger of two.
+-- A fact about bytes, proved by one test that antt computes at each of the 256; and the table's rule, by one test at each of its entries.
 -- Assumes nothing.
 use mathlib.Core.Path.{_≡_, refl, subst}
 use mathlib.Core.Bool.{Bool, true, false, Bool·beq}
 use mathlib.Core.List.{List}
-use Prim.Native.Nat.{ℕ, zero, suc, _≤_, _<_, _/_, _%_}
+use Prim.Native.Nat.{ℕ, zero, suc, _<_, _/_, _%_}
 use native.Mathlib.Omega.{arith}
 use native.Mathlib.Decide.{decLt}
 use lib.Dec.{T, eqb, eqb→eq}
@@ -66,7 +65,3 @@ right b x = eqb x (classOf b)
 -- the test of all entries together, carried to each
 pub classes-rule : (table : List ℕ) → length table ≡ 256 → T (every right 0 table) → Classes table
 classes-rule table e t = record { rule = λ b h. eqb→eq (getD table b 0) (classOf b) (at right table t b (omega arith)) }
-
--- where the larger of two is 0, both are
-pub larger-zero : {a b r : ℕ} → (a ≤ r) × (b ≤ r) → r ≡ 0 → (a ≡ 0) × (b ≡ 0)
-larger-zero m e = (omega (arith, m .0), omega (arith, m .1))

@@ -10,7 +10,7 @@ use lib.Dec.{eqb, leb}
 use lib.ListN.{length}
 use lib.Seq.{sets}
 use Rattle.scan.specs.Scan.{byteAt, partOf}
-use Rattle.scan.specs.Utf8.{isUtf8}
+use Rattle.utf8.specs.Utf8.{isUtf8}
 use Rattle.words.specs.Words.{Row, shipped}
 use Rattle.aliases.specs.Rows.{rowsOf, rowsBytes}
 use Rattle.aliases.specs.Good.{goodTable, goodArea}

@@ -10,7 +10,7 @@ use lib.ListN.{length, take, drop}
 use lib.Seq.{take-append-seam}
 use borrow.Author.Tests.{leb-true}
 use Rattle.scan.specs.Scan.{partOf}
-use Rattle.scan.specs.Utf8.{isUtf8}
+use Rattle.utf8.specs.Utf8.{isUtf8}
 use Rattle.store.specs.Splice.{Put, sets-front}
 use Rattle.context.specs.Context as context
 use Rattle.reading.specs.Alone.{atFront, refusalNo}

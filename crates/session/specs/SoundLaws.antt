@@ -14,7 +14,7 @@ use lib.Seq.{sets, length-sets}
 use borrow.Author.Tests.{eqb-true, leb-true, leb-false, eq-eqb, le-leb}
 use Rattle.scan.specs.Scan.{byteAt, partOf}
 use Rattle.scan.specs.PartLaws.{part-length}
-use Rattle.scan.specs.Utf8.{isUtf8, utf8At, utf8From}
+use Rattle.utf8.specs.Utf8.{isUtf8, utf8At, utf8From}
 use Rattle.words.specs.Words.{Row, lookupIn}
 use Rattle.words.specs.declared.words.Named.{Named}
 use Rattle.aliases.specs.Rows.{rowsOf, rowsBytes}

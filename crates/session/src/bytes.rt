@@ -2,8 +2,8 @@
 use aliases::good::good;
 use scan::part::byte_at;
 use scan::part::part;
-use scan::utf8::is_utf8;
 use store::put_bytes;
+use utf8::utf8::is_utf8;
 ghost use mathlib.Core.Path.{_≡_};
 ghost use mathlib.Core.Bool.{true};
 ghost use Prim.Native.Nat.{_+_, _<_, _≤_};

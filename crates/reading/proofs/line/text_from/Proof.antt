@@ -1,13 +1,17 @@
 -- `line::text_from` meets its contract.
 -- Assumes nothing.
-use Rattle.scan.specs.Bytes.{isKind}
+use mathlib.Core.Path.{_∙_, sym}
+use native.Mathlib.Omega.{arith}
+use Rattle.scan.specs.Bytes.{isKind, isText}
 use Rattle.scan.specs.RunLaws.{runAt-later}
 use borrow.Author.Needs.{needs}
 use Rattle.reading.proofs.line.text_from.Statement.{statement}
 use Rattle.reading.proofs.line.text_from.Tie as tie
 
 returns : tie.Need-returns
-returns c = runAt-later _ _ _ _ (search needs) (search needs)
+returns c =
+    let e = c .before .before .pre .0 in
+    e ∙ sym (runAt-later isText _ 0 (c .before .before .args .a) (omega arith) (omega (arith, e)))
 
 run-end-requires : tie.Need-run-end-requires
 run-end-requires c κs = search needs

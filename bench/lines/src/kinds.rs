@@ -1,0 +1,113 @@
+//! The kinds of lines that are measured.
+use oracle::generate::{Ops, Requests};
+use oracle::session::Session;
+use oracle::vector::Op;
+
+/// Lines that are measured together.
+pub struct Kind {
+    pub name: String,
+    /// Whether all 32 aliases are set, each of 24 bytes.
+    pub aliases: bool,
+    pub lines: Vec<String>,
+}
+
+fn kind(name: &str, aliases: bool, line: impl Into<String>) -> Kind {
+    Kind {
+        name: name.into(),
+        aliases,
+        lines: vec![line.into()],
+    }
+}
+
+/// A line that is its own name.
+fn short(line: &str) -> Kind {
+    kind(&format!("`{line}`"), false, line)
+}
+
+/// The words of the aliases that are set, all of the same length and with the same beginning.
+pub fn alias(number: usize) -> String {
+    let last = char::from(b'a' + (number % 26) as u8);
+    let before = char::from(b'A' + (number / 26) as u8);
+    format!("{}{before}{last}", "z".repeat(22))
+}
+
+/// All kinds: short commands, names, prefixes, refusals, all aliases set, and lines of 1,024 bytes.
+pub fn kinds() -> Vec<Kind> {
+    let mut all = vec![
+        short("q"),
+        short(":+5-3close"),
+        short("vert 3sp a\\ b"),
+        short("resize +5"),
+        short("tabm 3"),
+        short("w! \"a b\""),
+        short("vert tab hor vert sp abcdefghijkl"),
+        kind("255 times `tab `, then `q`", false, "tab ".repeat(255) + "q"),
+        short("3 q"),
+        short("foo"),
+        short("tabn q"),
+        short("$+1close"),
+        kind("32 aliases, `q`", true, "q"),
+        kind("32 aliases, the last of them", true, alias(31)),
+        kind("32 aliases, an unknown word", true, "z".repeat(24)),
+    ];
+    all.extend(SHAPES.iter().map(|shape| Kind {
+        name: format!("1,024 bytes: {}", shape.name),
+        aliases: false,
+        lines: vec![(shape.line)(1024)],
+    }));
+    all.push(mixed());
+    all
+}
+
+/// How a line of a given length is made.
+pub struct Shape {
+    pub name: &'static str,
+    pub line: fn(usize) -> String,
+}
+
+/// `start`, as many of `unit` as fit in `length` bytes, and `end`.
+fn filled(start: &str, unit: &str, end: &str, length: usize) -> String {
+    start.to_owned() + &unit.repeat((length - start.len() - end.len()) / unit.len()) + end
+}
+
+/// Lines that can be of any length.
+pub const SHAPES: [Shape; 11] = [
+    Shape { name: "a plain name", line: |n| filled("w ", "a", "", n) },
+    Shape { name: "a quoted name", line: |n| filled("w \"", "a", "\"", n) },
+    Shape { name: "a name of escapes", line: |n| filled("w ", "\\ ", "", n) },
+    Shape { name: "a name of two-byte characters", line: |n| filled("w ", "é", "", n) },
+    Shape { name: "a name of three-byte characters", line: |n| filled("w ", "€", "", n) },
+    Shape { name: "names of one byte (5)", line: |n| filled("w ", "a ", "", n) },
+    Shape { name: "prefixes", line: |n| filled("", "tab ", "q", n) },
+    Shape { name: "spaces", line: |n| filled("", " ", "q", n) },
+    Shape { name: "digits", line: |n| filled("", "0", "q", n) },
+    Shape { name: "offsets", line: |n| filled("", "+1", "close", n) },
+    Shape { name: "one unknown word (10)", line: |n| filled("", "a", "", n) },
+];
+
+/// Random lines of a fresh session, of up to 60 bytes; those at which the Rust panics (4 and 7) are left out.
+fn mixed() -> Kind {
+    let mut requests = Requests::new(7, Ops::Lines);
+    let mut session = Session::new();
+    let mut lines = Vec::new();
+
+    while lines.len() < 20_000 {
+        let (op, text) = requests.request();
+        let Ok(line) = String::from_utf8(text) else { continue };
+
+        if op == Op::Line && line.len() <= 60 {
+            let refusal = session.run(&line).result.map_or_else(|e| e.number(), |_| 0);
+
+            if refusal != 4 && refusal != 7 {
+                lines.push(line);
+            }
+        }
+    }
+
+    let bytes: usize = lines.iter().map(String::len).sum();
+    Kind {
+        name: format!("20,000 mixed lines, {} bytes each", bytes / lines.len()),
+        aliases: false,
+        lines,
+    }
+}

@@ -1,0 +1,88 @@
+// Blocks of 32 bytes that are put to a test.
+use super::test::either;
+use super::test::not_plain;
+use super::test::not_quoted;
+use super::test::not_space;
+use scan::classes::Kind;
+ghost use mathlib.Core.Path.{_≡_};
+ghost use mathlib.Core.Bool.{false};
+ghost use Prim.Native.Nat.{_+_, _≤_};
+ghost use lib.ListN.{length};
+ghost use Rattle.scan.specs.Bytes.{isKind, isSpace, isPlain, isQuoted};
+ghost use Rattle.scan.specs.Scan.{runAt};
+
+// How many bytes a block has.
+const BLOCK: usize = 32;
+
+// False only where the block at `at` is of spaces.
+fn any_not_space(s: &[u8], at: usize) -> bool
+    requires { ⌜ at + 32 ≤ length (now s) ⌝ }
+    ensures { λ r. ⌜ (r ≡ false → runAt isSpace (now (s .entry)) at ≡ runAt isSpace (now (s .entry)) (at + 32)) ⌝ }
+{
+    let mut m = false;
+    let mut i: usize = 0;
+    while i < BLOCK {
+        m = either(m, not_space(s[at + i]));
+        i += 1;
+    }
+    m
+}
+
+// False only where the block at `at` is of bytes that stand for themselves in plain text.
+fn any_not_plain(s: &[u8], at: usize) -> bool
+    requires { ⌜ at + 32 ≤ length (now s) ⌝ }
+    ensures { λ r. ⌜ (r ≡ false → runAt isPlain (now (s .entry)) at ≡ runAt isPlain (now (s .entry)) (at + 32)) ⌝ }
+{
+    let mut m = false;
+    let mut i: usize = 0;
+    while i < BLOCK {
+        m = either(m, not_plain(s[at + i]));
+        i += 1;
+    }
+    m
+}
+
+// False only where the block at `at` is of bytes that stand for themselves in quoted text.
+fn any_not_quoted(s: &[u8], at: usize) -> bool
+    requires { ⌜ at + 32 ≤ length (now s) ⌝ }
+    ensures { λ r. ⌜ (r ≡ false → runAt isQuoted (now (s .entry)) at ≡ runAt isQuoted (now (s .entry)) (at + 32)) ⌝ }
+{
+    let mut m = false;
+    let mut i: usize = 0;
+    while i < BLOCK {
+        m = either(m, not_quoted(s[at + i]));
+        i += 1;
+    }
+    m
+}
+
+// False only where the block at `at` is of the kind; always true for kinds whose runs are short.
+fn any_foreign(s: &[u8], at: usize, k: Kind) -> bool
+    requires { ⌜ at + 32 ≤ length (now s) ⌝ }
+    ensures { λ r. ⌜ (r ≡ false → runAt (isKind k) (now (s .entry)) at ≡ runAt (isKind k) (now (s .entry)) (at + 32)) ⌝ }
+{
+    match k {
+        Kind::Space => any_not_space(s, at),
+        Kind::Plain => any_not_plain(s, at),
+        Kind::Quoted => any_not_quoted(s, at),
+        Kind::Colon => true,
+        Kind::Digit => true,
+        Kind::Word => true,
+        Kind::Mark => true,
+        Kind::Text => true,
+    }
+}
+
+// Past the blocks from `at` on that are of the kind throughout.
+pub fn blocks_end(s: &[u8], at: usize, k: Kind) -> usize
+    ensures { λ r. ⌜ runAt (isKind k) (now (s .entry)) at ≡ runAt (isKind k) (now (s .entry)) r ⌝ }
+{
+    let mut i = at;
+    while i < s.len() && BLOCK <= s.len() - i {
+        if any_foreign(s, i, k) {
+            return i;
+        }
+        i += BLOCK;
+    }
+    i
+}

@@ -1,0 +1,136 @@
+-- `utf8::any_sequence` meets its contract.
+-- Assumes nothing.
+use mathlib.Core.Path.{_≡_, _∙_, sym}
+use mathlib.Core.Bool.{true}
+use Prim.Native.Nat.{suc, _+_, _-_, _≤_}
+use native.Mathlib.Omega.{arith}
+use borrow.Author.Tests.{not-true, not-false}
+use Rattle.scan.specs.Bytes.{within}
+use Rattle.scan.specs.Scan.{byteAt}
+use Rattle.utf8.specs.Utf8.{followers, lowest, highest}
+use Rattle.utf8.specs.Utf8Laws.{followers-four, sequence-one, sequence-none, second-off, sequence-two, third-off, sequence-three, fourth-off, sequence-four}
+use borrow.Author.Needs.{needs}
+use Rattle.utf8.proofs.utf8.any_sequence.Statement.{statement}
+use Rattle.utf8.proofs.utf8.any_sequence.Tie as tie
+
+shared-slice-read-b : tie.Need-shared-slice-read-b
+shared-slice-read-b c = search needs
+
+followers-requires : tie.Need-followers-requires
+followers-requires c κs = search needs
+
+add-t8 : tie.Need-add-t8
+add-t8 c = search needs
+
+returns : tie.Need-returns
+returns c = sequence-one _ _ (c .before .before .before .before .pre) (sym (c .before .followers .ensures) ∙ c .if1 .taken)
+
+returns-2 : tie.Need-returns-2
+returns-2 c = sequence-none _ _ (c .before .before .before .before .before .pre) (sym (c .before .before .followers .ensures) ∙ c .if2 .taken)
+
+add-follows : tie.Need-add-follows
+add-follows c = search needs
+
+lowest-requires : tie.Need-lowest-requires
+lowest-requires c κs = search needs
+
+highest-requires : tie.Need-highest-requires
+highest-requires c κs = search needs
+
+follows-requires : tie.Need-follows-requires
+follows-requires c κs = search needs
+
+few : (c : tie.After-followers) → c .followers .result ≤ 4
+few c = rw (c .followers .ensures) (followers-four _)
+
+second : (c : tie.After-follows) →
+    let a = c .before .before .before .before .before .before .before .before .args in
+    let b = byteAt (a .s .now) (a .i) in
+    c .follows .result ≡ within (lowest b) (highest b) (byteAt (a .s .now) (a .i + 1))
+second c = rw (← c .before .before .lowest .ensures, ← c .before .highest .ensures) (c .follows .ensures)
+
+returns-3 : tie.Need-returns-3
+returns-3 c =
+    let n = c .before .before .before .before .before .before .followers .result in
+    let e : n ≡ suc (n - 1) = omega arith in
+    second-off _ _ (c .before .before .before .before .before .before .before .before .before .pre) (n - 1) (sym (c .before .before .before .before .before .before .followers .ensures) ∙ e) (omega (arith, few (c .before .before .before .before .before .before))) (sym (second (c .before)) ∙ not-true _ (c .if3 .taken))
+
+add-t12 : tie.Need-add-t12
+add-t12 c = search needs
+
+returns-4 : tie.Need-returns-4
+returns-4 c = sequence-two _ _ (c .before .before .before .before .before .before .before .before .before .before .pre) (sym (c .before .before .before .before .before .before .before .followers .ensures) ∙ c .if4 .taken) (sym (second (c .before .before)) ∙ not-false _ (c .before .if3 .left))
+
+add-follows-2 : tie.Need-add-follows-2
+add-follows-2 c = search needs
+
+follows-requires-2 : tie.Need-follows-requires-2
+follows-requires-2 c κs = search needs
+
+second-on : (c : tie.After-follows2) →
+    let a = c .before .before .before .before .before .before .before .before .before .before .before .args in
+    let b = byteAt (a .s .now) (a .i) in
+    within (lowest b) (highest b) (byteAt (a .s .now) (a .i + 1)) ≡ true
+second-on c = sym (second (c .before .before .before)) ∙ not-false _ (c .before .before .if3 .left)
+
+returns-5 : tie.Need-returns-5
+returns-5 c =
+    let n = c .before .before .before .before .before .before .before .before .before .followers .result in
+    let e : n ≡ suc (suc (n - 2)) = omega arith in
+    third-off _ _ (c .before .before .before .before .before .before .before .before .before .before .before .before .pre) (n - 2) (sym (c .before .before .before .before .before .before .before .before .before .followers .ensures) ∙ e) (omega (arith, few (c .before .before .before .before .before .before .before .before .before))) (second-on (c .before)) (sym (c .before .follows2 .ensures) ∙ not-true _ (c .if5 .taken))
+
+add-t13 : tie.Need-add-t13
+add-t13 c = search needs
+
+returns-6 : tie.Need-returns-6
+returns-6 c = sequence-three _ _ (c .before .before .before .before .before .before .before .before .before .before .before .before .before .pre) (second-on (c .before .before)) (sym (c .before .before .follows2 .ensures) ∙ not-false _ (c .before .if5 .left)) (sym (c .before .before .before .before .before .before .before .before .before .before .followers .ensures) ∙ c .if6 .taken)
+
+add-follows-3 : tie.Need-add-follows-3
+add-follows-3 c = search needs
+
+follows-requires-3 : tie.Need-follows-requires-3
+follows-requires-3 c κs = search needs
+
+third-on : (c : tie.After-follows3) → let a = c .before .before .before .before .before .before .before .before .before .before .before .before .before .before .args in within 0x80 0xBF (byteAt (a .s .now) (a .i + 2)) ≡ true
+third-on c = sym (c .before .before .before .follows2 .ensures) ∙ not-false _ (c .before .before .if5 .left)
+
+three : (c : tie.After-follows3) → let a = c .before .before .before .before .before .before .before .before .before .before .before .before .before .before .args in followers (byteAt (a .s .now) (a .i)) ≡ 3
+three c =
+    let n : c .before .before .before .before .before .before .before .before .before .before .before .followers .result ≡ 3 = omega (arith, few (c .before .before .before .before .before .before .before .before .before .before .before)) in
+    sym (c .before .before .before .before .before .before .before .before .before .before .before .followers .ensures) ∙ n
+
+returns-7 : tie.Need-returns-7
+returns-7 c = fourth-off _ _ (c .before .before .before .before .before .before .before .before .before .before .before .before .before .before .before .pre) (second-on (c .before .before .before .before)) (third-on (c .before)) (three (c .before)) (sym (c .before .follows3 .ensures) ∙ not-true _ (c .if7 .taken))
+
+add-t9 : tie.Need-add-t9
+add-t9 c = search needs
+
+returns-8 : tie.Need-returns-8
+returns-8 c = sequence-four _ _ (c .before .before .before .before .before .before .before .before .before .before .before .before .before .before .before .pre) (second-on (c .before .before .before .before)) (third-on (c .before)) (three (c .before)) (sym (c .before .follows3 .ensures) ∙ not-false _ (c .if7 .left))
+
+pub any-sequence-spec : {M : Type 1} → statement M
+any-sequence-spec =
+    tie.close
+    (tie.spec
+    shared-slice-read-b
+    followers-requires
+    add-t8
+    returns
+    returns-2
+    add-follows
+    lowest-requires
+    highest-requires
+    follows-requires
+    returns-3
+    add-t12
+    returns-4
+    add-follows-2
+    follows-requires-2
+    returns-5
+    add-t13
+    returns-6
+    add-follows-3
+    follows-requires-3
+    returns-7
+    add-t9
+    returns-8)

@@ -1,0 +1,74 @@
+-- `utf8::is_utf8` meets its contract. The invariant: the text is judged from i as from its start.
+-- Assumes nothing.
+use mathlib.Core.Path.{_≡_, _∙_, sym}
+use Prim.Native.Nat.{_-_}
+use native.Mathlib.Omega.{arith}
+use lib.ListN.{length}
+use Rattle.utf8.specs.Utf8.{isUtf8, utf8At, whole}
+use Rattle.utf8.specs.Utf8Laws.{utf8-end, ascii-all}
+use borrow.Author.Tests.{not-true}
+use borrow.Author.Needs.{needs}
+use Rattle.utf8.proofs.utf8.is_utf8.Statement.{statement}
+use Rattle.utf8.proofs.utf8.is_utf8.Tie as tie
+
+abbrev Inv-loop : tie.InvT-loop
+Inv-loop s i₀ i = isUtf8 s ≡ utf8At whole s i
+
+abbrev μ-loop : tie.MeasureT-loop
+μ-loop s i₀ i = length s - i
+
+any-high-before-requires : tie.Need-any-high-before-requires Inv-loop μ-loop
+any-high-before-requires c κs = search needs
+
+returns : tie.Need-returns Inv-loop μ-loop
+returns c = sym (ascii-all _ (c .before .any-high-before .ensures (not-true _ (c .if1 .taken))))
+
+ascii-end-requires : tie.Need-ascii-end-requires Inv-loop μ-loop
+ascii-end-requires c κs = search needs
+
+loop-holds : tie.Need-loop-holds Inv-loop μ-loop
+unfolding isUtf8
+loop-holds c = c .ascii-end .ensures .0
+
+sequence-requires : tie.Need-sequence-requires Inv-loop μ-loop
+sequence-requires c κs = search needs
+
+enum-known-j : tie.Need-enum-known-j Inv-loop μ-loop
+enum-known-j c = search needs
+
+enum-told : tie.Need-enum-told Inv-loop μ-loop
+enum-told c = search needs
+
+returns-2 : tie.Need-returns-2 Inv-loop μ-loop
+returns-2 c = sym (c .before .before .before .before .loop .inv ∙ rw (c .enum-told .given .1) at (c .before .before .sequence .ensures))
+
+ascii-end-requires-2 : tie.Need-ascii-end-requires-2 Inv-loop μ-loop
+ascii-end-requires-2 c κs = search needs
+
+loop-less : tie.Need-loop-less Inv-loop μ-loop
+loop-less c = let e = rw (c .before .before .j .given .1) at (c .before .before .before .before .sequence .ensures) in omega (arith, e .1, c .ascii-end2 .ensures .1)
+
+loop-again : tie.Need-loop-again Inv-loop μ-loop
+loop-again c = let e = rw (c .before .before .j .given .1) at (c .before .before .before .before .sequence .ensures) in c .before .before .before .before .before .before .loop .inv ∙ e .0 ∙ c .ascii-end2 .ensures .0
+
+returns-3 : tie.Need-returns-3 Inv-loop μ-loop
+returns-3 c = sym (c .before .loop .inv ∙ utf8-end _ _ _ (search needs))
+
+pub is-utf8-spec : {M : Type 1} → statement M
+is-utf8-spec =
+    tie.close
+    (tie.spec
+    Inv-loop
+    μ-loop
+    any-high-before-requires
+    returns
+    ascii-end-requires
+    loop-holds
+    sequence-requires
+    enum-known-j
+    enum-told
+    returns-2
+    ascii-end-requires-2
+    loop-less
+    loop-again
+    returns-3)
