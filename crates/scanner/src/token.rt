@@ -17,7 +17,6 @@ ghost use mathlib.Core.Path.{_≡_};
 ghost use Prim.Native.Nat.{_<_};
 ghost use lib.ListN.{length};
 ghost use Rattle.scan.specs.Bytes.{Classes};
-ghost use Rattle.ranges.specs.Range.{rangeAt};
 ghost use Rattle.reading.specs.Line.{wordAt};
 ghost use Rattle.scanner.specs.Tokens.{leadLeft, leadWord, leadOf, pieces, upTo, pieceAt, parted as partedAt, newlineToken, itemToken, argumentToken, tokenAt, tokenFrom};
 
