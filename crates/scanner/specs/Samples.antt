@@ -11,7 +11,6 @@ use Rattle.lists.specs.Text.{quotedEscape, plainEscape, escapeOf, own, stopAt, 
 use Rattle.lists.specs.Lists.{itemOf, itemAt}
 use Rattle.reading.specs.Line.{skipByte, wordAt}
 use Rattle.scanner.specs.Tokens.{token, leadLeft, leadWord, leadRange, leadOf, pieces, upTo, pieceAt, parted, newlineToken, itemToken, argumentToken, tokenAt, tokensFrom, tokensAt, tokensOf}
-use Rattle.scanner.specs.declared.token.TokenKind.{TokenKind}
 use Rattle.scanner.specs.declared.token.TokenKind.the-variants.{Space, Colon, Range, Word, Bang, Text, Quoted, Newline, Left}
 use Rattle.scanner.specs.declared.token.Token.{Token}
 

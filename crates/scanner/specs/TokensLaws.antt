@@ -80,6 +80,15 @@ module _ (s : List ℕ) (i : ℕ) (h : i < length s) where
           record { starts = g .starts; past = g .past; inside = omega (arith, g .inside, lead-inside s) }
       go false e = argument-good
 
+  -- and so whatever a scanner takes for the argument's start: before the end it always moves on
+  pub from-good : (g : ℕ) → Good i (length s) (tokenFrom s i g)
+  unfolding tokenFrom
+  from-good g = go (ltb i g)
+    where
+      go : (b : Bool) → Good i (length s) (cond b (tokenAt s i) (argumentToken s i))
+      go true = token-good
+      go false = argument-good
+
 -- the tokens, one after the other ------------------------------------------------------------------------------------------------------
 
 module _ (s : List ℕ) where
