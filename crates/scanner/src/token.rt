@@ -55,7 +55,7 @@ pub struct Lead {
     pub argument: usize,
 }
 
-// The lead of a line whose reading fails at `d`.
+// The lead of a line whose reading fails at `d`, past spaces up to `a`, colons up to `b` and spaces up to `c`.
 fn lead_left(s: &[u8], a: usize, b: usize, c: usize, d: usize) -> Lead
     ensures { λ r. ⌜ r ≡ leadLeft (now (s .entry)) a b c d ⌝ }
 {
@@ -72,7 +72,7 @@ fn lead_left(s: &[u8], a: usize, b: usize, c: usize, d: usize) -> Lead
     }
 }
 
-// The lead of a line whose word stands at `d`.
+// The lead of a line whose word stands at `d`, past the same.
 fn lead_word(s: &[u8], a: usize, b: usize, c: usize, d: usize, classes: &[u8; 256]) -> Lead
     requires { ⌜ Classes (now classes) ⌝ }
     ensures { λ r. ⌜ r ≡ leadWord (now (s .entry)) a b c d (wordAt (now (s .entry)) d) ⌝ }
@@ -123,7 +123,7 @@ fn up_to(kind: TokenKind, at: usize, stop: usize, then: Token) -> Token
     then
 }
 
-// The piece of a lead that `at` stands in, from `at` on.
+// The piece of a lead that `at` stands in, from `at` on: each is put before those behind it.
 fn piece_at(l: Lead, at: usize) -> Token
     ensures { λ r. ⌜ r ≡ pieceAt (pieces l) at ⌝ }
 {

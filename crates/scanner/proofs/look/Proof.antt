@@ -1,6 +1,7 @@
--- `scanner::look` meets its contract: a walk of its MIR, by hand. The struct is taken apart, and `token_from` is called on the slice, the place passed and the place of the argument.
--- All that the proof knows of `token_from` is that it meets its contract.
--- The struct is Copy: what it owns is had twice, one copy is kept whole for the exit, and of the other what line owns goes to the callee, beside the lifetime's token, which comes back.
+-- `scanner::look` meets its contract: a walk of its MIR, by hand. The struct is taken apart, and `token_from` is called on the slice, the
+-- place passed and the place of the argument. All that the proof knows of `token_from` is that it meets its contract.
+-- The struct is Copy: what it owns is had twice, one copy is kept whole for the exit, and of the other what line owns goes to the callee,
+-- beside the lifetime's token, which comes back.
 -- Assumes nothing.
 use mathlib.Core.Path.{_≡_, refl}
 use Prim.Native.Nat.{ℕ, _<_, _^_}

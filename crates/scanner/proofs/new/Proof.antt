@@ -1,5 +1,7 @@
--- `scanner::new` meets its contract: a walk of its MIR, by hand. `argument_start` is called on the slice passed, and a `Scanner` is made of the slice, 0 and the number that it answers.
--- A `&[u8]` is Copy, so what it owns is had three times: for the callee, for line at exit, and inside the result, beside the facts of the numbers.
+-- `scanner::new` meets its contract: a walk of its MIR, by hand. `argument_start` is called on the slice passed, and a `Scanner` is made of
+-- the slice, 0 and the number that it answers.
+-- A `&[u8]` is Copy, so what it owns is had three times: for the callee, for line at exit, and inside the result, beside the facts of the
+-- numbers.
 -- Assumes nothing.
 use mathlib.Core.Path.{_≡_, refl, ap}
 use Prim.Native.Nat.{ℕ, _<_, _^_}

@@ -1,6 +1,7 @@
--- `scanner::next` meets its contract: a walk of its MIR, by hand. The scanner's borrow is opened, `token_from` is called on the slice and the numbers in it,
--- the token's end is stored as the place, and the borrow is closed at the scanner with the new place.
--- All that the proof knows of `token_from` is that it meets its contract. What the slice owns is Copy: the scanner's own is had twice, one goes to the callee's parts and one stays in the cell.
+-- `scanner::next` meets its contract: a walk of its MIR, by hand. The scanner's borrow is opened, `token_from` is called on the slice and
+-- the numbers in it, the token's end is stored as the place, and the borrow is closed at the scanner with the new place.
+-- All that the proof knows of `token_from` is that it meets its contract. What the slice owns is Copy: the scanner's own is had twice, one
+-- goes to the callee's parts and one stays in the cell.
 -- Assumes nothing.
 use mathlib.Core.Path.{_≡_, refl, ap}
 use Prim.Native.Nat.{ℕ, _<_, _^_}
