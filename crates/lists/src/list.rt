@@ -59,7 +59,7 @@ fn item_of(i: usize, d: usize, e: TextEnd) -> TextEnd
 }
 
 // Where the item at `at` ends.
-fn item_end(s: &[u8], at: usize, classes: &[u8; 256]) -> TextEnd
+pub fn item_end(s: &[u8], at: usize, classes: &[u8; 256]) -> TextEnd
     requires { ⌜ Classes (now classes) ⌝ }
     ensures { λ r. ⌜ r ≡ itemAt (now (s .entry)) at ⌝ }
 {

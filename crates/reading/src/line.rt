@@ -38,7 +38,7 @@ pub enum CommandRead {
     TooLarge,
 }
 
-fn skip_byte(s: &[u8], i: usize, b: u8) -> usize
+pub fn skip_byte(s: &[u8], i: usize, b: u8) -> usize
     requires { ⌜ 0 < b ⌝ }
     ensures { λ r. ⌜ r ≡ skipByte (now (s .entry)) i b ⌝ }
 {
@@ -49,7 +49,7 @@ fn skip_byte(s: &[u8], i: usize, b: u8) -> usize
 }
 
 // The word at `at`: `!` alone, or a run of word characters, or empty.
-fn parse_cmd_name(s: &[u8], at: usize, classes: &[u8; 256]) -> WordRead
+pub fn parse_cmd_name(s: &[u8], at: usize, classes: &[u8; 256]) -> WordRead
     requires { ⌜ Classes (now classes) ⌝ }
     ensures { λ r. ⌜ r ≡ wordAt (now (s .entry)) at ⌝ }
 {

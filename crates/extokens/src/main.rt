@@ -1,0 +1,52 @@
+// Takes all of standard input as one line, and prints its tokens, one to a line: the kind, the place of the first byte, and the place
+// past the last.
+use libc::STDIN_FILENO;
+use libc::STDOUT_FILENO;
+use scan::part::part;
+use scanner::token::Token;
+use scanner::token::TokenKind;
+use scanner::token::argument_start;
+use scanner::token::token_from;
+
+fn print_kind(k: TokenKind) {
+    match k {
+        TokenKind::Space => io::write_all(STDOUT_FILENO, b"space"),
+        TokenKind::Colon => io::write_all(STDOUT_FILENO, b"colon"),
+        TokenKind::Range => io::write_all(STDOUT_FILENO, b"range"),
+        TokenKind::Word => io::write_all(STDOUT_FILENO, b"word"),
+        TokenKind::Bang => io::write_all(STDOUT_FILENO, b"bang"),
+        TokenKind::Text => io::write_all(STDOUT_FILENO, b"text"),
+        TokenKind::Quoted => io::write_all(STDOUT_FILENO, b"quoted"),
+        TokenKind::Newline => io::write_all(STDOUT_FILENO, b"newline"),
+        TokenKind::Left => io::write_all(STDOUT_FILENO, b"left"),
+        TokenKind::End => io::write_all(STDOUT_FILENO, b"end"),
+    }
+    ;
+}
+
+fn print_token(t: Token) {
+    let kind = t.kind;
+    print_kind(kind);
+    io::write_all(STDOUT_FILENO, b" ");
+    io::print_decimal(STDOUT_FILENO, t.start as u64);
+    io::write_all(STDOUT_FILENO, b" ");
+    io::print_decimal(STDOUT_FILENO, t.stop as u64);
+    io::write_all(STDOUT_FILENO, b"\n");
+}
+
+fn print_tokens(line: &[u8]) {
+    let argument = argument_start(line);
+    let mut at: usize = 0;
+    while at < line.len() {
+        let t = token_from(line, at, argument);
+        print_token(t);
+        at = t.stop;
+    }
+}
+
+// A line has at most 1,024 bytes: what comes behind them is not read.
+fn main() {
+    let mut line = [0u8; 1024];
+    let n = io::read_full(STDIN_FILENO, &mut line);
+    print_tokens(part(&line, 0, n));
+}

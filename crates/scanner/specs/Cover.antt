@@ -1,0 +1,43 @@
+-- What is said of a line's tokens: that they cover the line, the bytes that they name, and those of one kind.
+-- Assumes nothing.
+use mathlib.Core.Path.{_≡_}
+use Prim.Native.Nat.{ℕ, _<_}
+use mathlib.Core.Bool.{true, false, cond}
+use mathlib.Core.List.{List, [], _∷_, _++_}
+use lib.Dec.{eqb, ltb}
+use Rattle.scan.specs.Scan.{partOf}
+use Rattle.scanner.specs.Tokens.{token}
+use Rattle.scanner.specs.declared.token.TokenKind.{TokenKind}
+use Rattle.scanner.specs.declared.token.Token.{Token}
+
+-- tokens that go from i up to e: each starts where the one before it stopped, and has at least one byte
+abbrev pub Covers : ℕ → ℕ → List Token → Type 0
+Covers i e [] = i ≡ e
+Covers i e (t ∷ ts) = (t .start ≡ i) × (i < t .stop) × Covers (t .stop) e ts
+
+-- the bytes of s that tokens name, one token after the other
+unfoldable pub bytesOf : List ℕ → List Token → List ℕ
+bytesOf s [] = []
+bytesOf s (t ∷ ts) = partOf s (t .start) (t .stop) ++ bytesOf s ts
+
+-- a number for each kind, to tell them apart; the first four stand in a lead alone
+unfoldable pub kindNo : TokenKind → ℕ
+kindNo TokenKind.Colon = 0
+kindNo TokenKind.Range = 1
+kindNo TokenKind.Word = 2
+kindNo TokenKind.Bang = 3
+kindNo TokenKind.Space = 4
+kindNo TokenKind.Text = 5
+kindNo TokenKind.Quoted = 6
+kindNo TokenKind.Newline = 7
+kindNo TokenKind.Left = 8
+kindNo TokenKind.End = 9
+
+-- the tokens of one kind, in their order
+unfoldable pub ofKind : TokenKind → List Token → List Token
+ofKind k [] = []
+ofKind k (t ∷ ts) = elim (eqb (kindNo (t .kind)) (kindNo k)) [ true ↦ t ∷ ofKind k ts | false ↦ ofKind k ts ]
+
+-- one token, or none where it would have no byte
+unfoldable pub some : TokenKind → ℕ → ℕ → List Token
+some k i j = cond (ltb i j) (token k i j ∷ []) []
