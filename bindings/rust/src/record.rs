@@ -24,6 +24,10 @@ impl Action {
     /// assert_eq!(Action::from_record(&[8, 1]), Err(NotARecord)); // cut short
     /// assert_eq!(Action::from_record(&[8, 1, 0x83, 0]), Err(NotARecord)); // 3 has a shorter form
     /// ```
+    ///
+    /// # Errors
+    ///
+    /// [`NotARecord`] if no action, nor nothing, is written as these bytes.
     pub fn from_record(record: &[u8]) -> Result<Option<Action>, NotARecord> {
         whole(record, Reader::record).ok_or(NotARecord)
     }

@@ -32,8 +32,8 @@ const LINE: usize = 836;
 /// # Ok::<(), Box<dyn std::error::Error>>(())
 /// ```
 ///
-/// Two sessions are equal if every word leads to the same command in both and they remember the same line. So their used bytes are
-/// compared, and the free ones are not: docs/SESSION-BYTES.md says which are free, and that this is the same.
+/// Two sessions are equal if they have the same added aliases, whatever was added first, and remember the same line. So their used
+/// bytes are compared, and the free ones are not: docs/SESSION-BYTES.md says which are free, and why this is the same.
 #[derive(Clone)]
 pub struct Session {
     /// Bytes that are taken as a session: a fresh one's, or checked by [`Session::from_bytes`]. Every call keeps that.

@@ -295,6 +295,11 @@ fn equality_is_of_the_used_bytes() {
     assert_eq!(ab, ba);
     ba.add_alias("a", Command::Only).unwrap();
     assert_ne!(ab, ba);
+
+    // An added alias counts even if it leads where the shipped word does.
+    let mut added = Session::new();
+    added.add_alias("q", Command::Quit).unwrap();
+    assert_ne!(added, Session::new());
 }
 
 #[test]
