@@ -1,0 +1,273 @@
+//! All words in which the crate says actions and refusals.
+//!
+//! Two actions never have the same words: names stand in quotes, and every part of the record has a word or a number of its own,
+//! or is known by having none.
+use crate::action::{
+    Action, Axis, Count, FocusChange, MoveDir1D, MovePosition, OpenTarget, Side, SizeChange,
+    TabAction, TabTarget, WindowAction, WindowTarget,
+};
+use crate::command::Command;
+use crate::flags::{CloseFlags, OpenFlags, WriteFlags};
+use crate::record::NotARecord;
+use crate::refusal::Refusal;
+use crate::session::{Accepted, Refused};
+use std::fmt::{Display, Formatter, Result};
+
+impl Display for Refusal {
+    fn fmt(&self, f: &mut Formatter<'_>) -> Result {
+        f.write_str(match self {
+            Refusal::LineTooLong => "the line is longer than 1024 bytes",
+            Refusal::NotUtf8 => "the line is not UTF-8",
+            Refusal::ParseFailed => "the line, or a list or range in it, does not parse",
+            Refusal::NumberTooLarge => "a number is above 18446744073709551615",
+            Refusal::InvalidArgument => "the command does not take this argument",
+            Refusal::InvalidRange => "the command does not take this range",
+            Refusal::SumTooLarge => "a sum of offsets is above 18446744073709551615",
+            Refusal::BadAlias => "the alias is not 1 to 24 word characters",
+            Refusal::BadCommand => "the command's number is above 27",
+            Refusal::UnknownWord => "no command has this word",
+            Refusal::Unimplemented => "the command is not implemented",
+            Refusal::StoreTooShort => "the store is too short",
+            Refusal::AliasesFull => "there are 32 aliases, and no place for a new one",
+            Refusal::NotASession => "the bytes are not a session",
+        })
+    }
+}
+
+impl Display for Refused {
+    fn fmt(&self, f: &mut Formatter<'_>) -> Result {
+        match &self.word {
+            Some(word) => write!(f, "{}: {}", self.refusal, Quoted(word)),
+            None => self.refusal.fmt(f),
+        }
+    }
+}
+
+impl Display for NotARecord {
+    fn fmt(&self, f: &mut Formatter<'_>) -> Result {
+        f.write_str("the bytes are not a record")
+    }
+}
+
+impl Display for Command {
+    fn fmt(&self, f: &mut Formatter<'_>) -> Result {
+        f.write_str(self.name())
+    }
+}
+
+impl Display for Accepted {
+    fn fmt(&self, f: &mut Formatter<'_>) -> Result {
+        match &self.action {
+            Some(action) => action.fmt(f),
+            None => f.write_str("nothing"),
+        }
+    }
+}
+
+impl Display for Action {
+    fn fmt(&self, f: &mut Formatter<'_>) -> Result {
+        match self {
+            Action::Window(action) => action.fmt(f),
+            Action::Tab(action) => action.fmt(f),
+        }
+    }
+}
+
+impl Display for WindowAction {
+    fn fmt(&self, f: &mut Formatter<'_>) -> Result {
+        match self {
+            WindowAction::Close(target, flags) => {
+                write!(f, "close {target}{}", close_flags(*flags))
+            }
+            WindowAction::Resize(focus, axis, change) => {
+                write!(f, "resize window {focus}, {axis}, {change}")
+            }
+            WindowAction::Open(target, flags, axis, side, count) => {
+                let (flags, count) = (open_flags(*flags), count_behind(", ", *count));
+                write!(f, "open {target}{flags}, {axis}, {side}{count}")
+            }
+            WindowAction::Split(target, flags, axis, side, count) => {
+                let (flags, count) = (open_flags(*flags), count_behind(", ", *count));
+                write!(f, "split {target}{flags}, {axis}, {side}{count}")
+            }
+            WindowAction::Switch(target, flags) => {
+                write!(f, "switch to {target}{}", open_flags(*flags))
+            }
+            WindowAction::Write(target, None, flags) => {
+                write!(f, "write {target}{}", write_flags(*flags))
+            }
+            WindowAction::Write(target, Some(name), flags) => {
+                write!(
+                    f,
+                    "write {target} to {}{}",
+                    Quoted(name),
+                    write_flags(*flags)
+                )
+            }
+        }
+    }
+}
+
+impl Display for TabAction {
+    fn fmt(&self, f: &mut Formatter<'_>) -> Result {
+        match self {
+            TabAction::Close(target, flags) => {
+                write!(f, "close {target}{}", close_flags(*flags))
+            }
+            TabAction::Focus(focus) => write!(f, "focus tab {focus}"),
+            TabAction::Move(focus) => write!(f, "move tab to {focus}"),
+            TabAction::Open(target, flags, focus) => {
+                write!(f, "open tab {target}{}, at {focus}", open_flags(*flags))
+            }
+        }
+    }
+}
+
+impl Display for OpenTarget {
+    fn fmt(&self, f: &mut Formatter<'_>) -> Result {
+        match self {
+            OpenTarget::Current => f.write_str("current"),
+            OpenTarget::Alternate => f.write_str("alternate"),
+            OpenTarget::Unnamed => f.write_str("unnamed"),
+            OpenTarget::Name(name) => Quoted(name).fmt(f),
+        }
+    }
+}
+
+impl Display for WindowTarget {
+    fn fmt(&self, f: &mut Formatter<'_>) -> Result {
+        match self {
+            WindowTarget::Single(focus) => write!(f, "window {focus}"),
+            WindowTarget::AllBut(focus) => write!(f, "all windows but {focus}"),
+            WindowTarget::All => f.write_str("all windows"),
+        }
+    }
+}
+
+impl Display for TabTarget {
+    fn fmt(&self, f: &mut Formatter<'_>) -> Result {
+        match self {
+            TabTarget::Single(focus) => write!(f, "tab {focus}"),
+            TabTarget::AllBut(focus) => write!(f, "all tabs but {focus}"),
+            TabTarget::All => f.write_str("all tabs"),
+        }
+    }
+}
+
+impl Display for FocusChange {
+    fn fmt(&self, f: &mut Formatter<'_>) -> Result {
+        match self {
+            FocusChange::Current => f.write_str("current"),
+            FocusChange::Offset(number) => write!(f, "{number}"),
+            FocusChange::Direction1D(direction, count, wrap) => {
+                let wrap = if *wrap { ", wrapping" } else { "" };
+                write!(f, "{direction}{}{wrap}", count_behind(" ", *count))
+            }
+            FocusChange::Position(position) => position.fmt(f),
+        }
+    }
+}
+
+impl Display for MovePosition {
+    fn fmt(&self, f: &mut Formatter<'_>) -> Result {
+        f.write_str(match self {
+            MovePosition::Beginning => "first",
+            MovePosition::End => "last",
+        })
+    }
+}
+
+impl Display for MoveDir1D {
+    fn fmt(&self, f: &mut Formatter<'_>) -> Result {
+        f.write_str(match self {
+            MoveDir1D::Next => "next",
+            MoveDir1D::Previous => "previous",
+        })
+    }
+}
+
+impl Display for Side {
+    fn fmt(&self, f: &mut Formatter<'_>) -> Result {
+        f.write_str(match self {
+            Side::Next => "after",
+            Side::Previous => "before",
+        })
+    }
+}
+
+impl Display for Axis {
+    fn fmt(&self, f: &mut Formatter<'_>) -> Result {
+        f.write_str(match self {
+            Axis::Horizontal => "horizontal",
+            Axis::Vertical => "vertical",
+        })
+    }
+}
+
+impl Display for SizeChange {
+    fn fmt(&self, f: &mut Formatter<'_>) -> Result {
+        match self {
+            SizeChange::Exact(size) => write!(f, "to {size}"),
+            SizeChange::Increase(size) => write!(f, "by +{size}"),
+            SizeChange::Decrease(size) => write!(f, "by -{size}"),
+        }
+    }
+}
+
+/// A name in quotes. Quotes, backslashes and control characters are escaped, the first ones as document 01's quoted text has them.
+struct Quoted<'a>(&'a str);
+
+impl Display for Quoted<'_> {
+    fn fmt(&self, f: &mut Formatter<'_>) -> Result {
+        f.write_str("\"")?;
+
+        for c in self.0.chars() {
+            match c {
+                '\t' => f.write_str("\\t")?,
+                '\r' => f.write_str("\\r")?,
+                '\n' => f.write_str("\\n")?,
+                '\\' => f.write_str("\\\\")?,
+                '"' => f.write_str("\\\"")?,
+                _ if c.is_control() => write!(f, "\\u{{{:x}}}", u32::from(c))?,
+                _ => write!(f, "{c}")?,
+            }
+        }
+
+        f.write_str("\"")
+    }
+}
+
+/// A count behind a text; nothing where the context decides.
+fn count_behind(text: &str, count: Count) -> String {
+    match count {
+        Count::Contextual => String::new(),
+        Count::Exact(number) => format!("{text}{number}"),
+    }
+}
+
+fn close_flags(flags: CloseFlags) -> String {
+    set(&[
+        (flags.contains(CloseFlags::QUIT), ", quit"),
+        (flags.contains(CloseFlags::FORCE), ", force"),
+    ])
+}
+
+fn open_flags(flags: OpenFlags) -> String {
+    set(&[
+        (flags.contains(OpenFlags::FORCE), ", force"),
+        (flags.contains(OpenFlags::READONLY), ", read-only"),
+    ])
+}
+
+fn write_flags(flags: WriteFlags) -> String {
+    set(&[(flags.contains(WriteFlags::FORCE), ", force")])
+}
+
+/// The words of the flags that are set.
+fn set(words: &[(bool, &str)]) -> String {
+    words
+        .iter()
+        .filter(|(is_set, _)| *is_set)
+        .map(|(_, word)| *word)
+        .collect()
+}
