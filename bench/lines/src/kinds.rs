@@ -98,7 +98,7 @@ fn mixed() -> Kind {
         if op == Op::Line && line.len() <= 60 {
             let refusal = session.run(&line).result.map_or_else(|e| e.number(), |_| 0);
 
-            if refusal != 4 && refusal != 7 {
+            if refusal != 4 && refusal != 7 && !line.contains("1844674407370955") {
                 lines.push(line);
             }
         }

@@ -1,7 +1,8 @@
 // Tests of one byte, by comparisons, which vector instructions have.
 ghost use mathlib.Core.Path.{_≡_};
 ghost use mathlib.Core.Bool.{true, false, _||_};
-ghost use Rattle.scan.specs.Bytes.{isSpace, isPlain, isQuoted};
+ghost use lib.Dec.{eqb};
+ghost use Rattle.scan.specs.Bytes.{isSpace, isQuoted};
 
 pub fn either(a: bool, b: bool) -> bool
     ensures { λ r. ⌜ r ≡ (a || b) ⌝ }
@@ -16,12 +17,18 @@ pub fn not_space(b: u8) -> bool
     !either(b == 0x20, b == 0x09)
 }
 
-// False only for a byte that stands for itself in plain text.
-pub fn not_plain(b: u8) -> bool
-    ensures { λ r. ⌜ (r ≡ false → isPlain b ≡ true) ⌝ }
+// Whether a byte is a space or 0x0A.
+pub fn is_blank(b: u8) -> bool
+    ensures { λ r. ⌜ r ≡ (eqb b 0x09 || eqb b 0x0A || eqb b 0x20) ⌝ }
 {
-    let blank = either(either(b == 0x09, b == 0x0A), b == 0x20);
-    either(either(either(blank, b == 0x7C), b == 0x22), b == 0x5C)
+    either(either(b == 0x09, b == 0x0A), b == 0x20)
+}
+
+// Whether a byte is `|`, `"` or the backslash.
+pub fn is_sign(b: u8) -> bool
+    ensures { λ r. ⌜ r ≡ (eqb b 0x7C || eqb b 0x22 || eqb b 0x5C) ⌝ }
+{
+    either(either(b == 0x7C, b == 0x22), b == 0x5C)
 }
 
 // False only for a byte that stands for itself in quoted text.

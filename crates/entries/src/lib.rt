@@ -1,6 +1,6 @@
 // The session over C: include/pagyolint.h declares these functions, with each argument's rule.
+use run::reply::LineReply;
 use session::lent::CountReply;
-use session::lent::LineReply;
 use session::lent::alias_in;
 use session::lent::fresh_in;
 use session::lent::line_in;
@@ -8,7 +8,8 @@ use session::lent::remembered_in;
 ghost use mathlib.Core.Path.{_≡_};
 ghost use lib.ListN.{length};
 ghost use Rattle.commands.specs.Line.{storeAfter};
-ghost use Rattle.session.specs.Lent.{reply, freshNo, freshBytes, lineAnswer, lineBytes, aliasNo, aliasBytes, readBackNo, readBackCount, readBackStore};
+ghost use Rattle.run.specs.Reply.{reply};
+ghost use Rattle.session.specs.Lent.{freshNo, freshBytes, lineAnswer, lineBytes, aliasNo, aliasBytes, readBackNo, readBackCount, readBackStore};
 
 #[no_mangle]
 pub extern "C" fn pagyolint_fresh(session: &mut [u8]) -> u64

@@ -1,8 +1,8 @@
 // Takes all of standard input as one line, runs it on a fresh session, and prints refusal, readings and, in hex, what was written.
 use libc::STDIN_FILENO;
 use libc::STDOUT_FILENO;
+use run::reply::LineReply;
 use scan::part::part;
-use session::lent::LineReply;
 use session::value::fresh;
 use session::value::input_cmd;
 

@@ -4,6 +4,7 @@ use super::sum::moved;
 use super::sum::sum_mods;
 use actions::action::Count;
 use actions::action::FocusChange;
+use ranges::again::spec_again;
 use ranges::range::RangeEnding;
 use ranges::range::RangeEndingType;
 use ranges::range::RangeRead;
@@ -32,6 +33,19 @@ pub enum Focused {
 pub enum Counted {
     Exact(u64),
     Refused(CommandError),
+}
+
+// The same focus, taken apart by its cases and put together again, so that its parts travel in registers.
+pub fn focus_again(f: FocusChange) -> FocusChange
+    ensures { λ r. ⌜ r ≡ f ⌝ }
+{
+    match f {
+        FocusChange::Current => FocusChange::Current,
+        FocusChange::Offset(n) => FocusChange::Offset(n),
+        FocusChange::Direction1D(d, n, wrap) => FocusChange::Direction1D(d, n, wrap),
+        FocusChange::Beginning => FocusChange::Beginning,
+        FocusChange::End => FocusChange::End,
+    }
 }
 
 fn toward(s: Sum, wrap: bool) -> Focused
@@ -93,7 +107,7 @@ pub fn window_range_target(s: &[u8], g: RangeRead, classes: &[u8; 256]) -> Focus
     ensures { λ r. ⌜ r ≡ focusOf (now (s .entry)) g ⌝ }
 {
     match g {
-        RangeRead::Found(r, _) => range_to_fc(s, r, false, classes),
+        RangeRead::Found(r, _) => range_to_fc(s, spec_again(r), false, classes),
         RangeRead::Absent => Focused::To(FocusChange::Current),
         RangeRead::TooLarge => Focused::Refused(CommandError::NumberTooLarge),
     }

@@ -8,6 +8,7 @@ use actions::action::WindowAction;
 use actions::flags::CloseFlags;
 use focus::focus::CommandError;
 use focus::focus::Focused;
+use focus::focus::focus_again;
 use focus::focus::window_range_target;
 use reading::line::CommandDescription;
 ghost use mathlib.Core.Path.{_≡_};
@@ -42,7 +43,7 @@ fn one(x: Focused) -> Closed
     ensures { λ r. ⌜ r ≡ oneOf x ⌝ }
 {
     match x {
-        Focused::To(c) => Closed::At(Target::Single(c)),
+        Focused::To(c) => Closed::At(Target::Single(focus_again(c))),
         Focused::Refused(e) => Closed::Refused(e),
     }
 }
@@ -51,7 +52,7 @@ fn others(x: Focused) -> Closed
     ensures { λ r. ⌜ r ≡ othersOf x ⌝ }
 {
     match x {
-        Focused::To(c) => Closed::At(Target::AllBut(c)),
+        Focused::To(c) => Closed::At(Target::AllBut(focus_again(c))),
         Focused::Refused(e) => Closed::Refused(e),
     }
 }

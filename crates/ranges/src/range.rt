@@ -1,5 +1,6 @@
 // Ranges: an end is an optional atom and then offsets; a range is an end, or two ends parted by `,` or `;`.
 // Beside parse_range_modifier, parse_range_number, parse_range_mark, parse_range_atom, parse_range_sep and parse_range of parse.rs.
+use super::again::ending_again;
 use scan::classes::Kind;
 use scan::classes::is_kind;
 use scan::decimal::Decimal;
@@ -237,7 +238,7 @@ fn parse_any_range(s: &[u8], at: usize, classes: &[u8; 256]) -> RangeRead
     if to == at {
         RangeRead::Absent
     } else {
-        RangeRead::Found(RangeSpec::Single(l), to)
+        RangeRead::Found(RangeSpec::Single(ending_again(l)), to)
     }
 }
 

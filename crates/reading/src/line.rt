@@ -2,6 +2,7 @@
 // Beside parse_cmd_name, parse_cmd_argument, parse_cmd_descr and parse of parse.rs.
 use blocks::run::skip_spaces;
 use blocks::text::text_stop;
+use ranges::again::range_again;
 use ranges::range::RangeRead;
 use ranges::range::parse_range;
 use scan::classes::Kind;
@@ -101,7 +102,7 @@ fn parse_cmd_argument(
     let e = text_from(s, a, stop, classes);
     if skip_byte(s, e, 0x0A) == s.len() {
         return CommandRead::Command(CommandDescription {
-            range: range,
+            range: range_again(range),
             word: word,
             end: end,
             bang: b != next,

@@ -4,9 +4,9 @@ use entries::pagyolint_alias;
 use entries::pagyolint_fresh;
 use entries::pagyolint_line;
 use entries::pagyolint_remembered;
+use run::reply::LineReply;
 use scan::part::byte_at;
 use scan::part::part;
-use session::lent::LineReply;
 
 // The session's bytes after a vector, and where its answer ends.
 pub struct Answered {

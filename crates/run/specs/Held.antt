@@ -15,6 +15,7 @@ use Rattle.reading.specs.declared.line.CommandDescription.{CommandDescription}
 use Rattle.actions.specs.Record.{paperOf}
 use Rattle.context.specs.Context.{fresh}
 use Rattle.context.specs.declared.context.CommandContext.{CommandContext}
+use Rattle.focus.specs.Focus.{errorNo}
 use Rattle.focus.specs.declared.focus.CommandError.{CommandError}
 use Rattle.handlers.specs.declared.done.Done.{Done}
 use Rattle.words.specs.Words.{Row}
@@ -24,8 +25,7 @@ use Rattle.commands.specs.RunLaws.{shrinks}
 use Rattle.commands.specs.TurnLaws.{NextIn, decide-in, again-flat, plus, ends, goes-on, begins}
 use Rattle.commands.specs.declared.next.Change.{Change}
 use Rattle.commands.specs.declared.next.Next.{Next}
-use Rattle.run.specs.End.{endedBy, endOf, answerOf}
-use Rattle.run.specs.declared.end.Ended.{Ended}
+use Rattle.run.specs.Reply.{after, doneAt}
 
 pub record Held (table : List Row) (line : List ℕ) (x : CommandContext) (n from to stop : ℕ) : Type 0 where
   pub order : from ≤ to
@@ -39,8 +39,8 @@ held-start table line stop e =
     record { order = runAt-within isSpace line 0 (omega arith); inside = omega arith; room = omega arith; flat = e; same = begins table fresh line }
 
 -- what a handler's answer to a reading of a part of the line stands for
-done-part : (l : List ℕ) (f t : ℕ) (d : CommandDescription) (y : Done) → In (d .argument) (t - f) (d .stop) → endOf l (endedBy y (f + d .argument) (f + d .stop)) ≡ doneOut (partOf l f t) d y
-unfolding endOf endedBy doneOut
+done-part : (l : List ℕ) (f t : ℕ) (d : CommandDescription) (y : Done) → In (d .argument) (t - f) (d .stop) → doneAt l y (f + d .argument) (f + d .stop) ≡ doneOut (partOf l f t) d y
+unfolding doneAt doneOut
 done-part l f t d (Done.Act a) i = ap (λ v. Out.act (paperOf v a)) (sym (part-part l f t (d .argument) (d .stop) (i .from) (i .to)))
 done-part l f t d (Done.Refused e) i = refl
 
@@ -51,23 +51,23 @@ module _ (table : List Row) (line : List ℕ) (x : CommandContext) (n from to st
   pub held-next : (v : Next) → decide table (partOf line from to) ≡ v → NextIn (to - from) v
   held-next v q = rw text-length at (subst (NextIn (length (partOf line from to))) q (decide-in table (partOf line from to)))
 
-  pub held-empty : decide table (partOf line from to) ≡ Next.Empty → answerOf line (record { end = Ended.Nothing; readings = n + 1 }) ≡ lineFrom table fresh line
-  unfolding answerOf endOf step
+  pub held-empty : decide table (partOf line from to) ≡ Next.Empty → after (n + 1) Out.nothing ≡ lineFrom table fresh line
+  unfolding step
   held-empty q = ends table (lineFrom table fresh line) n x (partOf line from to) Next.Empty _ (h .same) q refl
 
-  pub held-refused : (e : CommandError) → decide table (partOf line from to) ≡ Next.Refused e → answerOf line (record { end = Ended.Refused e; readings = n + 1 }) ≡ lineFrom table fresh line
-  unfolding answerOf endOf step
+  pub held-refused : (e : CommandError) → decide table (partOf line from to) ≡ Next.Refused e → after (n + 1) (Out.refused (errorNo e)) ≡ lineFrom table fresh line
+  unfolding step
   held-refused e q = ends table (lineFrom table fresh line) n x (partOf line from to) (Next.Refused e) _ (h .same) q refl
 
-  pub held-unknown : (a e : ℕ) → decide table (partOf line from to) ≡ Next.Unknown a e → answerOf line (record { end = Ended.Unknown (from + a) (from + e); readings = n + 1 }) ≡ lineFrom table fresh line
-  unfolding answerOf endOf step
+  pub held-unknown : (a e : ℕ) → decide table (partOf line from to) ≡ Next.Unknown a e → after (n + 1) (Out.unknown (partOf line (from + a) (from + e))) ≡ lineFrom table fresh line
+  unfolding step
   held-unknown a e q =
       let i : In a (to - from) e = held-next (Next.Unknown a e) q in
       ap (λ w. record { out = Out.unknown w; readings = n + 1 }) (sym (part-part line from to a e (i .from) (i .to)))
       ∙ ends table (lineFrom table fresh line) n x (partOf line from to) (Next.Unknown a e) _ (h .same) q refl
 
-  pub held-runs : (k : ℕ) (d : CommandDescription) → decide table (partOf line from to) ≡ Next.Runs k d → answerOf line (record { end = endedBy (handleOf k (partOf line from to) d x) (from + d .argument) (from + d .stop); readings = n + 1 }) ≡ lineFrom table fresh line
-  unfolding answerOf step
+  pub held-runs : (k : ℕ) (d : CommandDescription) → decide table (partOf line from to) ≡ Next.Runs k d → after (n + 1) (doneAt line (handleOf k (partOf line from to) d x) (from + d .argument) (from + d .stop)) ≡ lineFrom table fresh line
+  unfolding step
   held-runs k d q =
       let i : In (d .argument) (to - from) (d .stop) = held-next (Next.Runs k d) q in
       ap (λ o. record { out = o; readings = n + 1 }) (done-part line from to d (handleOf k (partOf line from to) d x) i)

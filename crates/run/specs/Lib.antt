@@ -1,2 +1,3 @@
-pub mod End
+pub mod Reply
+pub mod ReplyLaws
 pub mod Held

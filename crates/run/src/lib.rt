@@ -1,3 +1,3 @@
 // The run of a line over lent bytes: one reading after the other, and what is written of its end.
-pub mod end;
+pub mod reply;
 pub mod run;

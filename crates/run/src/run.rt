@@ -1,6 +1,9 @@
-// The run of a line: input_cmd of commands.rs without what it remembers. It writes nothing.
-use super::end::Ended;
-use super::end::ended_by;
+// The run of a line: input_cmd of commands.rs without what it remembers.
+use super::reply::LineReply;
+use super::reply::end_done;
+use super::reply::end_nothing;
+use super::reply::end_refused;
+use super::reply::end_unknown;
 use aliases::lookup::lookup_in;
 use blocks::run::skip_spaces;
 use blocks::text::text_stop;
@@ -15,19 +18,16 @@ use reading::line::parse_cmd_descr;
 use scan::part::part;
 ghost use mathlib.Core.Path.{_≡_};
 ghost use mathlib.Core.List.{_++_};
+ghost use Prim.Native.Nat.{_+_, _≤_};
+ghost use lib.ListN.{length};
 ghost use Rattle.scan.specs.Bytes.{Classes, isText};
 ghost use Rattle.scan.specs.Scan.{runAt};
 ghost use Rattle.context.specs.Context.{fresh as freshOne};
 ghost use Rattle.words.specs.Words.{shipped};
 ghost use Rattle.aliases.specs.Rows.{rowsOf};
 ghost use Rattle.commands.specs.Run.{decide as decideOf, lineFrom};
-ghost use Rattle.run.specs.End.{answerOf};
-
-// How a line ended, and after how many readings.
-pub struct Ran {
-    pub end: Ended,
-    pub readings: usize,
-}
+ghost use Rattle.commands.specs.Line.{storeAfter};
+ghost use Rattle.run.specs.Reply.{reply};
 
 // What one reading of a text leads to, where the first 0x0A of the text, or its end, is at `stop`.
 fn decide(s: &[u8], stop: usize, added: &[u8], classes: &[u8; 256]) -> Next
@@ -49,10 +49,13 @@ fn decide(s: &[u8], stop: usize, added: &[u8], classes: &[u8; 256]) -> Next
     }
 }
 
-// The run of a line with the added aliases, lent as bytes.
-pub fn run(line: &[u8], added: &[u8], classes: &[u8; 256]) -> Ran
+// The run of a line with the added aliases, lent as bytes. What it ends with is written at the front of the store.
+pub fn run(line: &[u8], added: &[u8], store: &mut [u8], classes: &[u8; 256]) -> LineReply
     requires { ⌜ Classes (now classes) ⌝ }
-    ensures { λ r. ⌜ answerOf (now (line .entry)) r ≡ lineFrom (rowsOf (now (added .entry)) ++ shipped) freshOne (now (line .entry)) ⌝ }
+    requires { ⌜ length (now line) + 40 ≤ length (now store) ⌝ }
+    ensures answer { λ r. ⌜ r ≡ reply (lineFrom (rowsOf (now (added .entry)) ++ shipped) freshOne (now (line .entry))) ⌝ }
+    ensures store { λ r. ⌜ now (store .exit) ≡ storeAfter (lineFrom (rowsOf (now (added .entry)) ++ shipped) freshOne (now (line .entry)) .out) (now (store .entry)) ⌝ }
+    ensures size { λ r. ⌜ length (now (store .exit)) ≡ length (now (store .entry)) ⌝ }
 {
     let mut x = CommandContext::fresh();
     let mut n: usize = 0;
@@ -64,30 +67,19 @@ pub fn run(line: &[u8], added: &[u8], classes: &[u8; 256]) -> Ran
         let s = part(line, from, to);
         match decide(s, stop, added, classes) {
             Next::Empty => {
-                return Ran {
-                    end: Ended::Nothing,
-                    readings: m,
-                };
+                return end_nothing(m as u64, store);
             }
             Next::Refused(e) => {
-                return Ran {
-                    end: Ended::Refused(e),
-                    readings: m,
-                };
+                return end_refused(e, m as u64);
             }
             Next::Unknown(a, e) => {
-                return Ran {
-                    end: Ended::Unknown(from + a, from + e),
-                    readings: m,
-                };
+                return end_unknown(line, from + a, from + e, m as u64, store);
             }
             Next::Runs(k, d) => {
-                let a = d.argument;
-                let e = d.stop;
-                return Ran {
-                    end: ended_by(handle(k, s, d, x, classes), from + a, from + e),
-                    readings: m,
-                };
+                let a = from + d.argument;
+                let e = from + d.stop;
+                let y = handle(k, s, d, x, classes);
+                return end_done(line, y, a, e, m as u64, store, classes);
             }
             Next::Again(ch, a, e) => {
                 x = changed(ch, x);

@@ -10,17 +10,14 @@ use Prim.Native.Nat.{ℕ}
 use lib.Dec.{eqb, leb}
 use lib.ListN.{length}
 use Rattle.context.specs.Context as context
-use Rattle.focus.specs.Focus.{errorNo}
 use Rattle.reading.specs.Alone.{checked, atFront}
 use Rattle.words.specs.Words.{Row, lookupIn}
 use Rattle.words.specs.declared.words.Named.{Named}
 use Rattle.aliases.specs.Good.{isAlias}
 use Rattle.aliases.specs.Add.{insert}
-use Rattle.commands.specs.Run.{outNo, outBytes, Answer}
+use Rattle.commands.specs.Run.{Answer}
 use Rattle.commands.specs.Line.{turned, line}
-use Rattle.run.specs.declared.end.Ended.{Ended}
 use Rattle.session.specs.Layout.{Session, fresh, tableOf, lineOf, sessionOf, remembering, aliasing, written, sound}
-use Rattle.session.specs.declared.lent.LineReply.{LineReply}
 
 -- a fresh session ---------------------------------------------------------------------------------------------------------------------------
 
@@ -31,17 +28,6 @@ unfoldable pub freshBytes : List ℕ → List ℕ
 freshBytes b = cond (eqb (length b) 1860) (written fresh b) b
 
 -- a line ------------------------------------------------------------------------------------------------------------------------------------
-
--- the number of each way in which a run ends, 0 where it is accepted
-unfoldable pub endNo : Ended → ℕ
-endNo Ended.Nothing = 0
-endNo (Ended.Refused e) = errorNo e
-endNo (Ended.Unknown a e) = 10
-endNo (Ended.Act x a e) = 0
-
--- an answer in numbers: the refusal or 0, the readings, and how many bytes stand at the front of the store
-unfoldable pub reply : Answer → LineReply
-reply a = record { refusal = outNo (a .out); readings = a .readings; count = length (outBytes (a .out)) }
 
 -- the line l, where the store is so many bytes long
 unfoldable pub lineAnswer : List ℕ → List ℕ → ℕ → Answer

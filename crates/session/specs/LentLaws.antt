@@ -19,39 +19,11 @@ use Rattle.reading.specs.declared.alone.Checked.{Checked}
 use Rattle.reading.specs.declared.alone.Refusal.{Refusal}
 use Rattle.commands.specs.Run.{outNo, outBytes, Answer, lineFrom}
 use Rattle.commands.specs.Line.{turned, line, storeAfter}
-use Rattle.run.specs.End.{endOf, answerOf}
-use Rattle.run.specs.declared.end.Ended.{Ended}
-use Rattle.run.specs.declared.run.Ran.{Ran}
+use Rattle.run.specs.Reply.{reply}
 use Rattle.session.specs.Layout.{tableOf, sessionOf, remembering, sound}
-use Rattle.session.specs.Lent.{endNo, reply, lineAnswer, lineBytes}
+use Rattle.session.specs.Lent.{lineAnswer, lineBytes}
 
 -- a line --------------------------------------------------------------------------------------------------------------------------------------
-
-pub end-no : (l : List ℕ) (e : Ended) → endNo e ≡ outNo (endOf l e)
-unfolding endNo outNo endOf
-end-no l Ended.Nothing = refl
-end-no l (Ended.Refused e) = refl
-end-no l (Ended.Unknown a e) = refl
-end-no l (Ended.Act x a e) = refl
-
--- what the run answers, in numbers
-pub reply-of : (l : List ℕ) (r : Ran) (a : Answer) (n k : ℕ) → answerOf l r ≡ a → n ≡ endNo (r .end) → k ≡ 0 + length (outBytes (endOf l (r .end))) →
-    record { refusal = n; readings = r .readings; count = k } ≡ reply a
-unfolding answerOf reply
-reply-of l r a n k e f g =
-    let h : k ≡ length (outBytes (endOf l (r .end))) = omega (arith, g) in
-    ap (λ (m : ℕ). record { refusal = m; readings = r .readings; count = k }) (f ∙ end-no l (r .end))
-    ∙ ap (λ (m : ℕ). record { refusal = outNo (endOf l (r .end)); readings = r .readings; count = m }) h
-    ∙ ap reply e
-
--- bytes at the front of a store
-pub front : {s s₁ v : List ℕ} {r : ℕ} → Put s s₁ 0 r v → r ≤ length s → s₁ ≡ atFront v s
-unfolding atFront
-front {s} {s₁} {v} p h = p .store ∙ sets-front s v (omega (arith, p .place))
-
-pub store-of : (l : List ℕ) (r : Ran) (a : Answer) {s s₁ : List ℕ} {k : ℕ} → answerOf l r ≡ a → Put s s₁ 0 k (outBytes (endOf l (r .end))) → k ≤ length s → s₁ ≡ storeAfter (a .out) s
-unfolding answerOf storeAfter
-store-of l r a {s} e p h = front p h ∙ ap (λ x. atFront (outBytes (x .out)) s) e
 
 -- nothing is written of a line that is refused before any reading
 pub nothing-written : (n : ℕ) (s : List ℕ) → s ≡ storeAfter (turned n .out) s

@@ -4,7 +4,6 @@ use super::bytes::put_two;
 use super::bytes::remember;
 use super::bytes::remembered;
 use super::bytes::sound;
-use super::numbers::end_number;
 use super::numbers::refusal_number;
 use aliases::add::count;
 use aliases::add::put_with;
@@ -12,7 +11,7 @@ use aliases::good::is_alias;
 use aliases::lookup::find;
 use reading::alone::Checked;
 use reading::alone::check;
-use run::end::put_end;
+use run::reply::LineReply;
 use run::run::run;
 use scan::classes::classes;
 use scan::part::part;
@@ -29,16 +28,9 @@ ghost use Rattle.aliases.specs.Good.{isAlias};
 ghost use Rattle.aliases.specs.Add.{insert};
 ghost use Rattle.commands.specs.Run.{lineFrom};
 ghost use Rattle.commands.specs.Line.{storeAfter};
+ghost use Rattle.run.specs.Reply.{reply};
 ghost use Rattle.session.specs.Layout.{areaOf, lineOf, sessionOf, tableOf, remembering, aliasing, sound as soundOf};
-ghost use Rattle.session.specs.Lent.{reply, isFull, freshNo, freshBytes, lineAnswer, lineBytes, aliasNo, aliasBytes, readBackNo, readBackCount, readBackStore};
-
-// What a line answers: the refusal's number or 0, the readings, and how many bytes it wrote at the front of the store.
-#[repr(C)]
-pub struct LineReply {
-    pub refusal: u64,
-    pub readings: u64,
-    pub count: u64,
-}
+ghost use Rattle.session.specs.Lent.{isFull, freshNo, freshBytes, lineAnswer, lineBytes, aliasNo, aliasBytes, readBackNo, readBackCount, readBackStore};
 
 // What reading the remembered line back answers: the refusal's number or 0, and the line's byte count.
 #[repr(C)]
@@ -70,15 +62,9 @@ fn run_in(b: &mut [u8], line: &[u8], store: &mut [u8], classes: &[u8; 256]) -> L
     ensures store { λ r. ⌜ now (store .exit) ≡ storeAfter (lineFrom (tableOf (sessionOf (now (b .entry)))) freshContext (now (line .entry)) .out) (now (store .entry)) ⌝ }
     ensures session { λ r. ⌜ now (b .exit) ≡ remembering (now (line .entry)) (now (b .entry)) ⌝ }
 {
-    let ran = run(line, area(b), classes);
-    let end = ran.end;
-    let count = put_end(line, end, store, classes);
+    let reply = run(line, area(b), store, classes);
     remember(b, line);
-    LineReply {
-        refusal: end_number(end),
-        readings: ran.readings as u64,
-        count: count as u64,
-    }
+    reply
 }
 
 // Runs a line: input_cmd of commands.rs.

@@ -1,16 +1,17 @@
 // A session by value. It holds the bytes in which it rests over C, and lends them.
 use super::lent::CountReply;
-use super::lent::LineReply;
 use super::lent::alias_in;
 use super::lent::fresh_in;
 use super::lent::line_in;
 use super::lent::remembered_in;
+use run::reply::LineReply;
 ghost use mathlib.Core.Path.{_≡_};
 ghost use mathlib.Core.List.{replicate};
 ghost use lib.ListN.{length};
 ghost use Rattle.commands.specs.Line.{storeAfter};
+ghost use Rattle.run.specs.Reply.{reply};
 ghost use Rattle.session.specs.Layout.{fresh as freshOne, written};
-ghost use Rattle.session.specs.Lent.{reply, lineAnswer, lineBytes, aliasNo, aliasBytes, readBackNo, readBackCount, readBackStore};
+ghost use Rattle.session.specs.Lent.{lineAnswer, lineBytes, aliasNo, aliasBytes, readBackNo, readBackCount, readBackStore};
 
 pub struct Session {
     pub bytes: [u8; 1860],

@@ -66,6 +66,9 @@ returns-3 c =
       c .before .parse-range-ending3 .ensures,
     )
 
+ending-again-requires : tie.Need-ending-again-requires
+ending-again-requires c κs = search needs
+
 returns-4 : tie.Need-returns-4
 unfolding rangeAt afterFirst
 returns-4 c =
@@ -81,11 +84,12 @@ returns-5 : tie.Need-returns-5
 unfolding rangeAt afterFirst
 returns-5 c =
     rw (
-      sym (c .before .before .before .before .before .before .before .parse-range-ending .ensures) ∙ c .before .before .before .before .before .l .given .1,
-      ← c .before .before .before .byte-at .ensures,
-      ne-eqb _ _ (c .before .before .if1 .left),
-      ne-eqb _ _ (c .before .if2 .left),
-      ne-eqb _ _ (c .if3 .left),
+      c .ending-again .ensures,
+      sym (c .before .before .before .before .before .before .before .before .parse-range-ending .ensures) ∙ c .before .before .before .before .before .before .l .given .1,
+      ← c .before .before .before .before .byte-at .ensures,
+      ne-eqb _ _ (c .before .before .before .if1 .left),
+      ne-eqb _ _ (c .before .before .if2 .left),
+      ne-eqb _ _ (c .before .if3 .left),
     )
 
 pub parse-any-range-spec : {M : Type 1} → statement M
@@ -105,5 +109,6 @@ parse-any-range-spec =
     parse-range-ending-requires-3
     double-requires-2
     returns-3
+    ending-again-requires
     returns-4
     returns-5)

@@ -19,15 +19,19 @@ text-from-requires c κs = search needs
 skip-byte-requires-2 : tie.Need-skip-byte-requires-2
 skip-byte-requires-2 c κs = search needs
 
+range-again-requires : tie.Need-range-again-requires
+range-again-requires c κs = search needs
+
 returns : tie.Need-returns
 unfolding restAt isKind
 returns c =
     rw (
-      ← c .before .before .before .before .skip-byte .ensures,
-      ← c .before .before .before .skip-spaces .ensures,
-      ← c .before .before .text-from .ensures,
-      ← c .before .skip-byte2 .ensures,
-      eq-eqb _ _ (c .if1 .taken),
+      c .range-again .ensures,
+      ← c .before .before .before .before .before .skip-byte .ensures,
+      ← c .before .before .before .before .skip-spaces .ensures,
+      ← c .before .before .before .text-from .ensures,
+      ← c .before .before .skip-byte2 .ensures,
+      eq-eqb _ _ (c .before .if1 .taken),
     )
 
 returns-2 : tie.Need-returns-2
@@ -49,5 +53,6 @@ parse-cmd-argument-spec =
     skip-spaces-requires
     text-from-requires
     skip-byte-requires-2
+    range-again-requires
     returns
     returns-2)

@@ -5,7 +5,7 @@ use lib.ListN.{length}
 use borrow.Author.Tests.{not-true, not-false}
 use Rattle.reading.specs.Checks.{check-room}
 use Rattle.commands.specs.Line.{storeAfter}
-use Rattle.session.specs.Lent.{reply}
+use Rattle.run.specs.Reply.{reply}
 use Rattle.session.specs.SoundLaws.{sound-told}
 use Rattle.session.specs.LentLaws.{nothing-written, turned-reply, line-99, line-bad, line-good, check-short}
 use borrow.Author.Needs.{needs}

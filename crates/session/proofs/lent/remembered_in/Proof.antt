@@ -6,7 +6,7 @@ use lib.ListN.{length}
 use borrow.Author.Tests.{le-leb, lt-leb, not-true, not-false}
 use Rattle.session.specs.Layout.{lineOf}
 use Rattle.session.specs.Lent.{readBackNo, readBackCount, readBackStore}
-use Rattle.session.specs.LentLaws.{front}
+use Rattle.run.specs.ReplyLaws.{front}
 use borrow.Author.Needs.{needs}
 use Rattle.session.proofs.lent.remembered_in.Statement.{statement}
 use Rattle.session.proofs.lent.remembered_in.Tie as tie

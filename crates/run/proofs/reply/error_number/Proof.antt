@@ -1,9 +1,9 @@
--- `numbers::error_number` meets its contract.
+-- `reply::error_number` meets its contract.
 -- Assumes nothing.
 use Rattle.focus.specs.Focus.{errorNo}
 use borrow.Author.Needs.{needs}
-use Rattle.session.proofs.numbers.error_number.Statement.{statement}
-use Rattle.session.proofs.numbers.error_number.Tie as tie
+use Rattle.run.proofs.reply.error_number.Statement.{statement}
+use Rattle.run.proofs.reply.error_number.Tie as tie
 
 enum-told : tie.Need-enum-told
 enum-told c = search needs

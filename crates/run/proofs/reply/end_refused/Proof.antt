@@ -1,0 +1,17 @@
+-- `reply::end_refused` meets its contract.
+-- Assumes nothing.
+use Rattle.commands.specs.Run.{outNo, outBytes}
+use Rattle.run.specs.Reply.{reply}
+use borrow.Author.Needs.{needs}
+use Rattle.run.proofs.reply.end_refused.Statement.{statement}
+use Rattle.run.proofs.reply.end_refused.Tie as tie
+
+error-number-requires : tie.Need-error-number-requires
+error-number-requires c κs = search needs
+
+returns : tie.Need-returns
+unfolding reply outNo outBytes
+returns c = rw (c .error-number .ensures)
+
+pub end-refused-spec : {M : Type 1} → statement M
+end-refused-spec = tie.close (tie.spec error-number-requires returns)
