@@ -1,6 +1,6 @@
 //! The kinds of lines that are measured.
+use crate::entry::Entry;
 use oracle::generate::{Ops, Requests};
-use oracle::session::Session;
 use oracle::vector::Op;
 
 /// Lines that are measured together.
@@ -31,7 +31,7 @@ pub fn alias(number: usize) -> String {
     format!("{}{before}{last}", "z".repeat(22))
 }
 
-/// All kinds: short commands, names, prefixes, refusals, all aliases set, and lines of 1,024 bytes.
+/// All kinds but the mixed lines: short commands, names, prefixes, refusals, all aliases set, and lines of 1,024 bytes.
 pub fn kinds() -> Vec<Kind> {
     let mut all = vec![
         short("q"),
@@ -55,7 +55,6 @@ pub fn kinds() -> Vec<Kind> {
         aliases: false,
         lines: vec![(shape.line)(1024)],
     }));
-    all.push(mixed());
     all
 }
 
@@ -85,22 +84,18 @@ pub const SHAPES: [Shape; 11] = [
     Shape { name: "one unknown word (10)", line: |n| filled("", "a", "", n) },
 ];
 
-/// Random lines of a fresh session, of up to 60 bytes; those at which the Rust panics (4 and 7) are left out.
-fn mixed() -> Kind {
+/// Random lines of a fresh session, of up to 60 bytes; those that are refused by 4 or 7, at which the Rust panics or wraps, are left out.
+pub fn mixed() -> Kind {
     let mut requests = Requests::new(7, Ops::Lines);
-    let mut session = Session::new();
+    let mut entry = Entry::fresh();
     let mut lines = Vec::new();
 
     while lines.len() < 20_000 {
         let (op, text) = requests.request();
         let Ok(line) = String::from_utf8(text) else { continue };
 
-        if op == Op::Line && line.len() <= 60 {
-            let refusal = session.run(&line).result.map_or_else(|e| e.number(), |_| 0);
-
-            if refusal != 4 && refusal != 7 && !line.contains("1844674407370955") {
-                lines.push(line);
-            }
+        if op == Op::Line && line.len() <= 60 && !matches!(entry.line(&line).refusal, 4 | 7) {
+            lines.push(line);
         }
     }
 
