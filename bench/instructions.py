@@ -1,4 +1,4 @@
-"""Counts instructions a byte of target/bin/measure; called by bench/instructions."""
+"""Counts instructions of target/bin/measure; called by bench/instructions."""
 import os
 import re
 import subprocess
@@ -49,13 +49,18 @@ for name, which, text in KINDS:
         counts.append(all_ - own)
     print(f'| {name} | {(counts[1] - counts[0]) / (len(long) - len(short)):.1f} | {counts[1]:,} |')
 
-# One reading of a short line, in all: what a line costs before its command is looked up.
-LINES = [b'q', b':+5-3close', b'vert 3sp a\\ b', b'vert tab hor vert sp abcdefghijkl']
+# Short lines, by what they are made of: lines of one reading, and the word of each.
+LINES = [(b'q', b'q'), (b':+5-3close', b'close'), (b'tabm 3', b'tabm'), (b'sp a\\ b', b'sp'), (b'w! "a b"', b'w'), (b'foo', b'foo')]
+
+
+def between(first, second, text):
+    return instructions(second, text)[0] - instructions(first, text)[0]
+
 
 print()
-print('| line, its first reading | instructions |')
-print('|---|---|')
-for line in LINES:
-    own, _ = instructions('0', line)
-    all_, _ = instructions('l', line)
-    print(f'| `{line.decode()}` | {all_ - own:,} |')
+print('| line | in all | the session\'s bytes checked | UTF-8 | reading | lookup | the rest: handler, record, line remembered |')
+print('|---|---|---|---|---|---|---|')
+for line, word in LINES:
+    whole = between('a', 'b', line)
+    parts = [between('a', 'k', line), between('0', 'u', line), between('0', 'l', line), between('0', 'w', word)]
+    print(f'| `{line.decode()}` | {whole:,} | ' + ' | '.join(f'{n:,}' for n in parts) + f' | {whole - sum(parts):,} |')

@@ -11,6 +11,7 @@ use lib.ListN.{length, take, drop, length-append, length-drop, take-append-drop}
 use lib.Seq.{take-append-seam, drop-append-seam, take-nil}
 use lib.Dec.{eqb, leb}
 use borrow.Author.Tests.{eqb-true, leb-true, eq-eqb, le-leb}
+use Rattle.scan.specs.RunLaws.{and-left, and-right}
 use Rattle.words.specs.Words.{Row, same, lookupIn}
 use Rattle.words.specs.declared.words.Named.{Named}
 use Rattle.aliases.specs.Rows.{rowsFrom, rowsOf, rowsBytes}
@@ -26,8 +27,7 @@ use Rattle.aliases.specs.declared.order.Order.{Order}
 -- tests -----------------------------------------------------------------------------------------------------------------------------------
 
 pub both : (a b : Bool) → (a && b) ≡ true → (a ≡ true) × (b ≡ true)
-both true b h = (refl, h)
-both false b h = let z : _≡_ {A = ℕ} 0 1 = cc in absurd (omega arith)
+both a b h = (and-left a b h, and-right a b h)
 
 less-is : (o : Order) → isLess o ≡ true → o ≡ Order.Less
 unfolding isLess

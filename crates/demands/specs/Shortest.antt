@@ -5,9 +5,9 @@ use mathlib.Core.Path.{_≡_}
 use mathlib.Core.Bool.{Bool, true, false}
 use mathlib.Core.List.{List, [], _∷_}
 use mathlib.Core.Option.{Option, none, some}
-use Prim.Native.Nat.{ℕ, _+_, _≤_, _/_, min}
+use Prim.Native.Nat.{ℕ, _+_, _/_, min}
 use lib.ListN.{length}
-use Rattle.scan.specs.Bytes.{isWord}
+use Rattle.aliases.specs.Good.{isAlias}
 use Rattle.words.specs.Words.{Row}
 use Rattle.commands.specs.Run.{roleNamed}
 use Rattle.commands.specs.declared.next.Role.{Role}
@@ -46,16 +46,7 @@ limit (some m) n = (n + 1) / (m + 1) + 1
 
 -- aliases ------------------------------------------------------------------------------------------------------------------------------
 
-abbrev pub AllWord : List ℕ → Type 0
-AllWord [] = Unit {0}
-AllWord (x ∷ w) = (isWord x ≡ true) × AllWord w
-
--- an added alias
-pub record Alias (w : List ℕ) : Type 0 where
-  pub some-byte : 1 ≤ length w
-  pub short : length w ≤ 24
-  pub word-bytes : AllWord w
-
+-- added aliases: each 1 to 24 word characters
 abbrev pub Aliases : List Row → Type 0
 Aliases [] = Unit {0}
-Aliases (r ∷ rs) = Alias (r .word) × Aliases rs
+Aliases (r ∷ rs) = (isAlias (r .word) ≡ true) × Aliases rs

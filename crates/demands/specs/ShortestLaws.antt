@@ -12,13 +12,16 @@ use lib.Dec.{eqb, leb}
 use lib.ListN.{length}
 use borrow.Author.Tests.{eqb-true, leb-true, leb-false}
 use Rattle.scan.specs.Bytes.{isWord}
-use Rattle.scan.specs.RunLaws.{and-left, and-right}
+use Rattle.scan.specs.Scan.{runAt, runFrom}
+use Rattle.aliases.specs.Good.{isAlias}
+use Rattle.aliases.specs.RowsLaws.{lookup-past}
+use Rattle.aliases.specs.TableLaws.{same-eq}
 use Rattle.words.specs.Words.{Row, aliases, names, shipped, same, lookupIn}
 use Rattle.words.specs.declared.words.Named.{Named}
 use Rattle.commands.specs.Handle.{roleOf, IsPrefix}
 use Rattle.commands.specs.Run.{roleAt, roleNamed}
 use Rattle.commands.specs.declared.next.Role.{Role}
-use Rattle.demands.specs.Shortest.{isPrefix, namesPrefix, smaller, shortestOf, shortest, Alias, Aliases}
+use Rattle.demands.specs.Shortest.{isPrefix, namesPrefix, smaller, shortestOf, shortest, Aliases}
 use Rattle.demands.specs.Statement.{NamesPrefix, Shortest}
 
 -- as shipped
@@ -55,28 +58,14 @@ abbrev In : List ℕ → List Row → Type 0
 In w [] = ⊥
 In w (r ∷ rs) = (w ≡ r .word) ⊎ In w rs
 
-same-is : (u v : List ℕ) → same u v ≡ true → u ≡ v
-unfolding same
-same-is [] [] e = refl
-same-is [] (y ∷ v) e = absurd (false≢true e)
-same-is (x ∷ u) [] e = absurd (false≢true e)
-same-is (x ∷ u) (y ∷ v) e =
-    let p = eqb-true x y (and-left (eqb x y) (same u v) e) in
-    let q = same-is u v (and-right (eqb x y) (same u v) e) in
-    cc
-
-lookup-next : (r : Row) (rs : List Row) (w : List ℕ) → same w (r .word) ≡ false → lookupIn (r ∷ rs) w ≡ lookupIn rs w
-unfolding lookupIn
-lookup-next r rs w h = rw (h, lookupIn)
-
 find-in : (rs : List Row) (w : List ℕ) → isPrefix (roleAt (lookupIn rs w)) ≡ true → In w rs
 unfolding lookupIn
 find-in [] w e = absurd (false≢true e)
 find-in (r ∷ rs) w e = go (same w (r .word)) refl (λ k. find-in rs w k)
   where
     go : (b : Bool) → same w (r .word) ≡ b → (isPrefix (roleAt (lookupIn rs w)) ≡ true → In w rs) → (w ≡ r .word) ⊎ In w rs
-    go true m ih = inl (same-is w (r .word) m)
-    go false m ih = inr (ih (ap (λ n. isPrefix (roleAt n)) (sym (lookup-next r rs w m)) ∙ e))
+    go true m ih = inl (same-eq w (r .word) m)
+    go false m ih = inr (ih (ap (λ n. isPrefix (roleAt n)) (sym (lookup-past r rs w m)) ∙ e))
 
 named-in : (table : List Row) (w : List ℕ) → namesPrefix table w ≡ true → In w table
 unfolding namesPrefix roleNamed
@@ -163,21 +152,17 @@ module _ (table : List Row) where
 -- `!` names no prefix ------------------------------------------------------------------------------------------------------------------------
 
 -- no alias is spelled so
-alias-bang : (w : List ℕ) → Alias w → same (0x21 ∷ []) w ≡ false
-unfolding same isWord
-alias-bang [] h = absurd (omega (arith, h .some-byte))
-alias-bang (x ∷ w) h = go (eqb 0x21 x) refl
+alias-bang : (w : List ℕ) → isAlias w ≡ true → same (0x21 ∷ []) w ≡ false
+unfolding isAlias runAt runFrom isWord
+alias-bang w h = go (same (0x21 ∷ []) w) refl
   where
-    go : (b : Bool) → eqb 0x21 x ≡ b → (b && same [] w) ≡ false
-    go true e =
-        let q = eqb-true 0x21 x e in
-        let z : isWord 0x21 ≡ true = ap isWord q ∙ h .word-bytes .0 in
-        absurd (false≢true z)
+    go : (b : Bool) → same (0x21 ∷ []) w ≡ b → b ≡ false
+    go true e = absurd (false≢true (ap isAlias (same-eq (0x21 ∷ []) w e) ∙ h))
     go false e = refl
 
 bang-lookup : (added : List Row) → Aliases added → lookupIn (added ++ shipped) (0x21 ∷ []) ≡ lookupIn shipped (0x21 ∷ [])
 bang-lookup [] h = refl
-bang-lookup (r ∷ rs) h = lookup-next r (rs ++ shipped) (0x21 ∷ []) (alias-bang (r .word) (h .0)) ∙ bang-lookup rs (h .1)
+bang-lookup (r ∷ rs) h = lookup-past r (rs ++ shipped) (0x21 ∷ []) (alias-bang (r .word) (h .0)) ∙ bang-lookup rs (h .1)
 
 -- and the shipped `!` is none
 shipped-bang : lookupIn shipped (0x21 ∷ []) ≡ Named.Command 0

@@ -4,6 +4,7 @@ use super::sum::moved;
 use super::sum::sum_mods;
 use actions::action::Count;
 use actions::action::FocusChange;
+use ranges::again::ending_again;
 use ranges::again::spec_again;
 use ranges::range::RangeEnding;
 use ranges::range::RangeEndingType;
@@ -96,7 +97,7 @@ pub fn range_to_fc(s: &[u8], g: RangeSpec, wrap: bool, classes: &[u8; 256]) -> F
     ensures { λ r. ⌜ r ≡ rangeFocus (now (s .entry)) g wrap ⌝ }
 {
     match g {
-        RangeSpec::Single(e) => end_focus(s, e, wrap, classes),
+        RangeSpec::Single(e) => end_focus(s, ending_again(e), wrap, classes),
         RangeSpec::Double(_, _, _) => Focused::Refused(CommandError::InvalidRange),
     }
 }

@@ -75,6 +75,7 @@ fn close_tabs(f: CloseFlags, x: Closed) -> Done
     }
 }
 
+// The `:close` command. Alias: `clo`. Closes the window that its range names.
 pub fn vim_cmd_close(s: &[u8], d: CommandDescription, classes: &[u8; 256]) -> Done
     requires { ⌜ Classes (now classes) ⌝ }
     ensures { λ r. ⌜ r ≡ closeOf (now (s .entry)) d ⌝ }
@@ -83,6 +84,7 @@ pub fn vim_cmd_close(s: &[u8], d: CommandDescription, classes: &[u8; 256]) -> Do
     close_windows(forced(d.bang), one(window_range_target(s, g, classes)))
 }
 
+// The `:only` command. Alias: `on`. Closes all windows but the one that its range names.
 pub fn vim_cmd_only(s: &[u8], d: CommandDescription, classes: &[u8; 256]) -> Done
     requires { ⌜ Classes (now classes) ⌝ }
     ensures { λ r. ⌜ r ≡ onlyOf (now (s .entry)) d ⌝ }
@@ -91,6 +93,7 @@ pub fn vim_cmd_only(s: &[u8], d: CommandDescription, classes: &[u8; 256]) -> Don
     close_windows(quitting(d.bang), others(window_range_target(s, g, classes)))
 }
 
+// The `:quit` command. Alias: `q`. Closes a window, and quits with the last one.
 pub fn vim_cmd_quit(s: &[u8], d: CommandDescription, classes: &[u8; 256]) -> Done
     requires { ⌜ Classes (now classes) ⌝ }
     ensures { λ r. ⌜ r ≡ quitOf (now (s .entry)) d ⌝ }
@@ -99,12 +102,14 @@ pub fn vim_cmd_quit(s: &[u8], d: CommandDescription, classes: &[u8; 256]) -> Don
     close_windows(quitting(d.bang), one(window_range_target(s, g, classes)))
 }
 
+// The `:quitall` command. Aliases: `qa`, `qall`, `quita`. Closes all tabs and quits.
 pub fn vim_cmd_quitall(d: CommandDescription) -> Done
     ensures { λ r. ⌜ r ≡ quitallOf d ⌝ }
 {
     Done::Act(Action::Tab(TabAction::Close(Target::All, quitting(d.bang))))
 }
 
+// The `:tabclose` command. Alias: `tabc`. Closes the tab that its range names.
 pub fn vim_cmd_tabclose(s: &[u8], d: CommandDescription, classes: &[u8; 256]) -> Done
     requires { ⌜ Classes (now classes) ⌝ }
     ensures { λ r. ⌜ r ≡ tabcloseOf (now (s .entry)) d ⌝ }
@@ -113,6 +118,7 @@ pub fn vim_cmd_tabclose(s: &[u8], d: CommandDescription, classes: &[u8; 256]) ->
     close_tabs(quitting(d.bang), one(window_range_target(s, g, classes)))
 }
 
+// The `:tabonly` command. Alias: `tabo`. Closes all tabs but the one that its range names.
 pub fn vim_cmd_tabonly(s: &[u8], d: CommandDescription, classes: &[u8; 256]) -> Done
     requires { ⌜ Classes (now classes) ⌝ }
     ensures { λ r. ⌜ r ≡ tabonlyOf (now (s .entry)) d ⌝ }
@@ -121,12 +127,14 @@ pub fn vim_cmd_tabonly(s: &[u8], d: CommandDescription, classes: &[u8; 256]) -> 
     close_tabs(quitting(d.bang), others(window_range_target(s, g, classes)))
 }
 
+// The `:tabfirst` command. Aliases: `tabr`, `tabrewind`, `tabfir`. Goes to the first tab.
 pub fn vim_cmd_tabfirst() -> Done
     ensures { λ r. ⌜ r ≡ tabfirstOf ⌝ }
 {
     Done::Act(Action::Tab(TabAction::Focus(FocusChange::Beginning)))
 }
 
+// The `:tablast` command. Alias: `tabl`. Goes to the last tab.
 pub fn vim_cmd_tablast() -> Done
     ensures { λ r. ⌜ r ≡ tablastOf ⌝ }
 {

@@ -4,24 +4,24 @@
 use mathlib.Core.Path.{_≡_, refl, sym, _∙_, ap}
 use mathlib.Core.Bool.{Bool, true, false, cond, _&&_, false≢true}
 use mathlib.Core.List.{List, [], _∷_, _++_}
-use Prim.Native.Nat.{ℕ, zero, suc, _-_, _<_, _≤_}
+use Prim.Native.Nat.{ℕ, zero, suc, _+_, _-_, _<_, _≤_}
 use native.Mathlib.Omega.{arith}
 use native.Mathlib.Decide.{decLt}
 use lib.Dec.{eqb, leb}
 use lib.ListN.{length, set}
 use lib.Seq.{sets}
-use borrow.Author.Tests.{le-leb, lt-leb, ne-eqb}
+use borrow.Author.Tests.{eqb-true, le-leb, lt-leb, ne-eqb}
 use Rattle.scan.specs.Bytes.{within, isWord}
+use Rattle.scan.specs.Scan.{runFrom, runAt}
+use Rattle.scan.specs.RunLaws.{run-yes, run-no}
 use Rattle.utf8.specs.Utf8.{Pending, Step, followers, lowest, highest, utf8Step, utf8From, utf8At, whole, isUtf8}
 use Rattle.utf8.specs.Utf8Laws.{next-step, bad-step}
 use Rattle.words.specs.Words.{Row}
 use Rattle.aliases.specs.Rows.{rowsBytes}
-use Rattle.aliases.specs.Good.{goodRow, goodRows, goodTable}
-use Rattle.aliases.specs.TableLaws.{both, row-told, table-length}
-use Rattle.demands.specs.Shortest.{AllWord}
+use Rattle.aliases.specs.Good.{isAlias, goodRow, goodRows, goodTable}
+use Rattle.aliases.specs.TableLaws.{both, alias-length, row-told, table-length}
 use Rattle.session.specs.Layout.{Session, WellFormed, two, remembering, aliasing, written}
 use Rattle.session.specs.SoundLaws.{Bytes}
-use Rattle.kept.specs.Demands.{alias-told}
 
 -- lists of bytes ----------------------------------------------------------------------------------------------------------------------------
 
@@ -76,9 +76,19 @@ word-byte x h = go (decLt x 256)
         ) in
         absurd (false≢true (sym q ∙ h))
 
-word-bytes : (w : List ℕ) → AllWord w → Bytes w
-word-bytes [] h = no-bytes
-word-bytes (x ∷ w) h = cons-bytes x w (word-byte x (h .0)) (word-bytes w (h .1))
+run-bytes : (w : List ℕ) (i : ℕ) → runFrom isWord i w ≡ i + length w → Bytes w
+run-bytes [] i h = no-bytes
+run-bytes (x ∷ w) i h = go (isWord x) refl (run-bytes w (i + 1))
+  where
+    go : (b : Bool) → isWord x ≡ b → (runFrom isWord (i + 1) w ≡ i + 1 + length w → Bytes w) → Bytes (x ∷ w)
+    go true e ih = cons-bytes x w (word-byte x e) (ih (omega (arith, run-yes isWord i x w e)))
+    go false e ih = absurd (omega (arith, run-no isWord i x w e, h))
+
+word-bytes : (w : List ℕ) → isAlias w ≡ true → Bytes w
+unfolding isAlias runAt
+word-bytes w h =
+    let k = both (leb 1 (length w) && leb (length w) 24) (eqb (runAt isWord w 0) (length w)) h in
+    run-bytes w 0 (omega (arith, eqb-true (runAt isWord w 0) (length w) (k .1)))
 
 rows-bytes : (before : List ℕ) (rs : List Row) → goodRows before rs ≡ true → Bytes (rowsBytes rs)
 unfolding goodRows rowsBytes
@@ -86,10 +96,9 @@ rows-bytes before [] h = no-bytes
 rows-bytes before (r ∷ rs) h =
     let k = both (goodRow before (length (r .word)) (r .command) (r .word)) (goodRows (r .word) rs) h in
     let t = row-told before (length (r .word)) (r .command) (r .word) (k .0) in
-    let a = alias-told (r .word) (t .an-alias) in
     let v = r .word ++ rowsBytes rs in
-    let u = append-bytes (r .word) (rowsBytes rs) (word-bytes (r .word) (a .word-bytes)) (rows-bytes (r .word) rs (k .1)) in
-    cons-bytes (length (r .word)) (r .command ∷ v) (omega (arith, a .short)) (cons-bytes (r .command) v (omega (arith, t .a-command)) u)
+    let u = append-bytes (r .word) (rowsBytes rs) (word-bytes (r .word) (t .an-alias)) (rows-bytes (r .word) rs (k .1)) in
+    cons-bytes (length (r .word)) (r .command ∷ v) (omega (arith, alias-length (r .word) (t .an-alias) .1)) (cons-bytes (r .command) v (omega (arith, t .a-command)) u)
 
 -- UTF-8 -------------------------------------------------------------------------------------------------------------------------------------
 

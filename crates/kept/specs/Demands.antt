@@ -17,7 +17,7 @@ use Rattle.aliases.specs.Good.{isAlias, goodRow, goodRows, goodTable}
 use Rattle.aliases.specs.TableLaws.{both, row-told, alias-length}
 use Rattle.context.specs.Context.{fresh}
 use Rattle.demands.specs.Statement.{typed, AboutLists, AboutReadings}
-use Rattle.demands.specs.Shortest.{shortest, limit, AllWord, Alias, Aliases}
+use Rattle.demands.specs.Shortest.{shortest, limit, Aliases}
 use Rattle.demands.specs.Demand3.{demand3-lists, demand3-readings, demand3-limit}
 use Rattle.session.specs.Layout.{Session, WellFormed, tableOf, sessionOf, sound}
 use Rattle.session.specs.Lent.{lineAnswer}
@@ -25,28 +25,12 @@ use Rattle.session.specs.SoundLaws.{sound-formed}
 
 -- aliases -----------------------------------------------------------------------------------------------------------------------------------
 
--- a run of word characters that goes to the end
-all-word : (w : List ℕ) (i : ℕ) → runFrom isWord i w ≡ i + length w → AllWord w
-all-word [] i h = tt
-all-word (x ∷ w) i h = go (isWord x) refl (all-word w (i + 1))
-  where
-    go : (b : Bool) → isWord x ≡ b → (runFrom isWord (i + 1) w ≡ i + 1 + length w → AllWord w) → (isWord x ≡ true) × AllWord w
-    go true e ih = (e, ih (omega (arith, run-yes isWord i x w e)))
-    go false e ih = absurd (omega (arith, run-no isWord i x w e))
-
-pub alias-told : (w : List ℕ) → isAlias w ≡ true → Alias w
-unfolding isAlias runAt
-alias-told w h =
-    let k = both (leb 1 (length w) && leb (length w) 24) (eqb (runAt isWord w 0) (length w)) h in
-    let n = alias-length w h in
-    record { some-byte = n .0; short = n .1; word-bytes = all-word w 0 (omega (arith, eqb-true (runAt isWord w 0) (length w) (k .1))) }
-
 rows-aliases : (before : List ℕ) (rs : List Row) → goodRows before rs ≡ true → Aliases rs
 unfolding goodRows
 rows-aliases before [] h = tt
 rows-aliases before (r ∷ rs) h =
     let k = both (goodRow before (length (r .word)) (r .command) (r .word)) (goodRows (r .word) rs) h in
-    (alias-told (r .word) (row-told before (length (r .word)) (r .command) (r .word) (k .0) .an-alias), rows-aliases (r .word) rs (k .1))
+    (row-told before (length (r .word)) (r .command) (r .word) (k .0) .an-alias, rows-aliases (r .word) rs (k .1))
 
 pub good-aliases : (rs : List Row) → goodTable rs ≡ true → Aliases rs
 unfolding goodTable

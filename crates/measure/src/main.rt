@@ -1,4 +1,4 @@
-// One reading of a text, to be counted in instructions: the first byte of standard input says which, the rest is the text.
+// A reading or a run of a text, to be counted in instructions: the first byte of standard input says which, the rest is the text.
 // It prints a number that depends on the answer, so that no work is left out.
 use libc::STDIN_FILENO;
 use libc::STDOUT_FILENO;
@@ -7,6 +7,11 @@ use reading::alone::OptionsReply;
 use reading::alone::RangeReply;
 use reading::alone::StringsReply;
 use reading::line::CommandRead;
+use scan::classes::classes;
+use session::bytes::sound;
+use session::lent::fresh_in;
+use session::lent::line_in;
+use words::words::Named;
 
 fn by_utf8(text: &[u8]) -> u64 {
     if utf8::utf8::is_utf8(text) { 1 } else { 0 }
@@ -54,6 +59,42 @@ fn by_options(text: &[u8]) -> u64 {
     }
 }
 
+fn by_lookup(text: &[u8]) -> u64 {
+    match aliases::lookup::lookup_in(&text[0..0], text) {
+        Named::Command(n) => n,
+        Named::Unknown => 28,
+    }
+}
+
+fn run_line(session: &mut [u8], text: &[u8]) -> u64 {
+    let mut store = [0u8; 1064];
+    let r = line_in(session, text, &mut store);
+    r.refusal | (r.readings << 8) | (r.count << 32)
+}
+
+fn by_line(text: &[u8]) -> u64 {
+    let mut session = [0u8; 1860];
+    fresh_in(&mut session);
+    run_line(&mut session, text)
+}
+
+// The same line again, where it is the one that is remembered.
+fn by_line_again(text: &[u8]) -> u64 {
+    let mut session = [0u8; 1860];
+    fresh_in(&mut session);
+    run_line(&mut session, text);
+    run_line(&mut session, text)
+}
+
+// The session's bytes are looked at once more.
+fn by_session(text: &[u8]) -> u64 {
+    let mut session = [0u8; 1860];
+    fresh_in(&mut session);
+    let n = run_line(&mut session, text);
+    let table = classes();
+    if sound(&session, &table) { n } else { 0 }
+}
+
 // `0` does nothing: what the program itself costs.
 fn measured(which: u8, text: &[u8]) -> u64 {
     match which {
@@ -63,6 +104,10 @@ fn measured(which: u8, text: &[u8]) -> u64 {
         0x66 => by_filenames(text),
         0x73 => by_strings(text),
         0x6F => by_options(text),
+        0x77 => by_lookup(text),
+        0x61 => by_line(text),
+        0x62 => by_line_again(text),
+        0x6B => by_session(text),
         _ => 0,
     }
 }

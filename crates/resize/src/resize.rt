@@ -125,6 +125,7 @@ fn resize_by(axis: Axis, c: Resized, f: Focused) -> Done
     }
 }
 
+// The `:resize` command. Alias: `res`. Changes the size of a window along the axis of the context.
 pub fn vim_cmd_resize(
     s: &[u8],
     d: CommandDescription,

@@ -5,6 +5,7 @@ use actions::action::FocusChange;
 use actions::action::TabAction;
 use focus::focus::CommandError;
 use focus::focus::Focused;
+use focus::focus::focus_again;
 use focus::focus::range_to_fc;
 use handlers::done::Done;
 use ranges::range::MoveDir1D;
@@ -15,7 +16,7 @@ use ranges::range::RangeSpec;
 use ranges::range::WholeRead;
 use ranges::range::parse_whole_range;
 use reading::line::CommandDescription;
-use scan::part::part;
+use reading::line::argument;
 ghost use mathlib.Core.Path.{_≡_};
 ghost use Rattle.scan.specs.Bytes.{Classes};
 ghost use Rattle.tabs.specs.Tabs.{unargued as unarguedOf, argued as arguedOf, tabRange, focusing, moving, back as backOf, backEnd, nextBy, tabnextOf, prevBy, tabprevOf, moveArgument, moveRange, tabmoveOf};
@@ -66,7 +67,7 @@ fn focused(x: Focused) -> Done
     ensures { λ r. ⌜ r ≡ focusing x ⌝ }
 {
     match x {
-        Focused::To(c) => Done::Act(Action::Tab(TabAction::Focus(c))),
+        Focused::To(c) => Done::Act(Action::Tab(TabAction::Focus(focus_again(c)))),
         Focused::Refused(e) => Done::Refused(e),
     }
 }
@@ -75,7 +76,7 @@ fn moved(x: Focused) -> Done
     ensures { λ r. ⌜ r ≡ moving x ⌝ }
 {
     match x {
-        Focused::To(c) => Done::Act(Action::Tab(TabAction::Move(c))),
+        Focused::To(c) => Done::Act(Action::Tab(TabAction::Move(focus_again(c)))),
         Focused::Refused(e) => Done::Refused(e),
     }
 }
@@ -96,12 +97,13 @@ fn next_by(s: &[u8], a: &[u8], g: TabRange, classes: &[u8; 256]) -> Focused
     }
 }
 
+// The `:tabnext` command. Alias: `tabn`. Goes to the next tab, or to the one that its range or argument names.
 pub fn vim_cmd_tabnext(s: &[u8], d: CommandDescription, classes: &[u8; 256]) -> Done
     requires { ⌜ Classes (now classes) ⌝ }
     ensures { λ r. ⌜ r ≡ tabnextOf (now (s .entry)) d ⌝ }
 {
     let g = d.range;
-    let a = part(s, d.argument, d.stop);
+    let a = argument(s, d);
     focused(next_by(s, a, tab_range(g, a, classes), classes))
 }
 
@@ -157,12 +159,13 @@ fn prev_by(g: TabRange) -> Focused
     }
 }
 
+// The `:tabprevious` command. Aliases: `tabp`, `tabN`, `tabNext`. Goes back a tab, or as many as its range or argument says.
 pub fn vim_cmd_tabprev(s: &[u8], d: CommandDescription, classes: &[u8; 256]) -> Done
     requires { ⌜ Classes (now classes) ⌝ }
     ensures { λ r. ⌜ r ≡ tabprevOf (now (s .entry)) d ⌝ }
 {
     let g = d.range;
-    focused(prev_by(tab_range(g, part(s, d.argument, d.stop), classes)))
+    focused(prev_by(tab_range(g, argument(s, d), classes)))
 }
 
 fn move_argument(a: &[u8], w: WholeRead, classes: &[u8; 256]) -> Focused
@@ -193,10 +196,11 @@ fn move_range(s: &[u8], g: RangeRead, a: &[u8], classes: &[u8; 256]) -> Focused
     }
 }
 
+// The `:tabmove` command. Alias: `tabm`. Moves the tab to the end, or where its range or argument says.
 pub fn vim_cmd_tabmove(s: &[u8], d: CommandDescription, classes: &[u8; 256]) -> Done
     requires { ⌜ Classes (now classes) ⌝ }
     ensures { λ r. ⌜ r ≡ tabmoveOf (now (s .entry)) d ⌝ }
 {
     let g = d.range;
-    moved(move_range(s, g, part(s, d.argument, d.stop), classes))
+    moved(move_range(s, g, argument(s, d), classes))
 }

@@ -151,6 +151,7 @@ fn tab_by(t: Opened, f: OpenFlags, c: Focused) -> Done
     }
 }
 
+// The `:split` command. Alias: `sp`. Opens a window on a file, or splits the window.
 pub fn vim_cmd_sp(s: &[u8], d: CommandDescription, x: CommandContext, classes: &[u8; 256]) -> Done
     requires { ⌜ Classes (now classes) ⌝ }
     ensures { λ r. ⌜ r ≡ splitOf (now (s .entry)) d x ⌝ }
@@ -164,7 +165,7 @@ pub fn vim_cmd_sp(s: &[u8], d: CommandDescription, x: CommandContext, classes: &
     )
 }
 
-// The axis is always overridden.
+// The `:vsplit` command. Aliases: `vs`, `vsp`. Does what split does along the vertical axis, whatever the context says.
 pub fn vim_cmd_vs(s: &[u8], d: CommandDescription, x: CommandContext, classes: &[u8; 256]) -> Done
     requires { ⌜ Classes (now classes) ⌝ }
     ensures { λ r. ⌜ r ≡ vsplitOf (now (s .entry)) d x ⌝ }
@@ -172,6 +173,7 @@ pub fn vim_cmd_vs(s: &[u8], d: CommandDescription, x: CommandContext, classes: &
     vim_cmd_sp(s, d, x.with_axis(Axis::Vertical), classes)
 }
 
+// The `:view` command. Alias: `vie`. Opens a file for reading.
 pub fn vim_cmd_view(s: &[u8], d: CommandDescription, x: CommandContext, classes: &[u8; 256]) -> Done
     requires { ⌜ Classes (now classes) ⌝ }
     ensures { λ r. ⌜ r ≡ viewOf (now (s .entry)) d x ⌝ }
@@ -183,6 +185,7 @@ pub fn vim_cmd_view(s: &[u8], d: CommandDescription, x: CommandContext, classes:
     )
 }
 
+// The `:tabedit` command. Aliases: `tabe`, `tabnew`. Opens a tab.
 pub fn vim_cmd_tabedit(s: &[u8], d: CommandDescription, classes: &[u8; 256]) -> Done
     requires { ⌜ Classes (now classes) ⌝ }
     ensures { λ r. ⌜ r ≡ tabeditOf (now (s .entry)) d ⌝ }

@@ -39,6 +39,7 @@ fn write_by(x: OnlyItem, f: WriteFlags) -> Done
     }
 }
 
+// The `:write` command. Alias: `w`. Writes the window, under a name if one is given.
 pub fn vim_cmd_write(s: &[u8], d: CommandDescription, classes: &[u8; 256]) -> Done
     requires { ⌜ Classes (now classes) ⌝ }
     ensures { λ r. ⌜ r ≡ writeOf (now (s .entry)) d ⌝ }
@@ -46,6 +47,7 @@ pub fn vim_cmd_write(s: &[u8], d: CommandDescription, classes: &[u8; 256]) -> Do
     write_by(only_item(argument(s, d), classes), writing(d.bang))
 }
 
+// The `:wall` command. Alias: `wa`. Writes all windows.
 pub fn vim_cmd_write_all(d: CommandDescription) -> Done
     ensures { λ r. ⌜ r ≡ wallOf d ⌝ }
 {

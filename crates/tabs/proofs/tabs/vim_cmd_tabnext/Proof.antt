@@ -5,8 +5,8 @@ use borrow.Author.Needs.{needs}
 use Rattle.tabs.proofs.tabs.vim_cmd_tabnext.Statement.{statement}
 use Rattle.tabs.proofs.tabs.vim_cmd_tabnext.Tie as tie
 
-part-requires : tie.Need-part-requires
-part-requires c κs = search needs
+argument-requires : tie.Need-argument-requires
+argument-requires c κs = search needs
 
 tab-range-requires : tie.Need-tab-range-requires
 tab-range-requires c κs = search needs
@@ -19,8 +19,8 @@ focused-requires c κs = search needs
 
 returns : tie.Need-returns
 unfolding tabnextOf
-returns c = rw (c .focused .ensures, c .before .next-by .ensures, c .before .before .tab-range .ensures, c .before .before .before .part .ensures)
+returns c = rw (c .focused .ensures, c .before .next-by .ensures, c .before .before .tab-range .ensures, c .before .before .before .argument .ensures)
 
 pub vim-cmd-tabnext-spec : {M : Type 1} → statement M
 vim-cmd-tabnext-spec =
-    tie.close (tie.spec part-requires tab-range-requires next-by-requires focused-requires returns)
+    tie.close (tie.spec argument-requires tab-range-requires next-by-requires focused-requires returns)
