@@ -14,7 +14,7 @@ use Rattle.handlers.specs.declared.done.Done.{Done}
 use Rattle.reading.specs.declared.line.CommandDescription.{CommandDescription}
 use Rattle.resize.specs.Resize.{resizeOf}
 use Rattle.tabs.specs.Tabs.{tabmoveOf, tabnextOf, tabprevOf}
-use Rattle.windows.specs.Open.{splitOf, vsplitOf, viewOf, tabeditOf}
+use Rattle.windows.specs.Open.{splitOf, vsplitIn, vsplitOf, viewOf, tabeditOf}
 use Rattle.windows.specs.Write.{writeOf, wallOf}
 use Rattle.commands.specs.declared.next.Role.{Role}
 
@@ -33,6 +33,10 @@ IsPrefix Role.Tab = Unit {0}
 IsPrefix (Role.Axis a) = Unit {0}
 IsPrefix (Role.Side d) = Unit {0}
 IsPrefix Role.Action = ⊥
+
+-- the context in which 10 and 11 are run
+unfoldable pub splitContext : ℕ → CommandContext → CommandContext
+splitContext n x = cond (eqb n 11) (vsplitIn x) x
 
 -- what each of the other commands does with a reading d of the text s, in the context x
 unfoldable pub handleOf : ℕ → List ℕ → CommandDescription → CommandContext → Done

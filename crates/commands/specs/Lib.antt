@@ -1,4 +1,5 @@
 pub mod Handle
+pub mod HandleLaws
 pub mod Run
 pub mod Line
 pub mod Samples

@@ -23,7 +23,18 @@ use windows::write::vim_cmd_write;
 use windows::write::vim_cmd_write_all;
 ghost use mathlib.Core.Path.{_≡_};
 ghost use Rattle.scan.specs.Bytes.{Classes};
-ghost use Rattle.commands.specs.Handle.{handleOf};
+ghost use Rattle.commands.specs.Handle.{splitContext, handleOf};
+
+// The context in which split is run: for `:split`, command 10, the context itself. Both commands call split in one place, so that what it
+// answers stays in registers.
+fn split_context(n: u64, x: CommandContext) -> CommandContext
+    ensures { λ r. ⌜ r ≡ splitContext n x ⌝ }
+{
+    if n == 11 {
+        return vim_cmd_vs(x);
+    }
+    x
+}
 
 // What the command `n` does with a reading `d` of the text `s`; `!`, `&`, read, print and substitute do nothing yet.
 pub fn handle(
@@ -42,8 +53,7 @@ pub fn handle(
         7 => vim_cmd_quit(s, d, classes),
         8 => vim_cmd_quitall(d),
         9 => vim_cmd_resize(s, d, x, classes),
-        10 => vim_cmd_sp(s, d, x, classes),
-        11 => vim_cmd_vs(s, d, x, classes),
+        10 | 11 => vim_cmd_sp(s, d, split_context(n, x), classes),
         12 => vim_cmd_view(s, d, x, classes),
         14 => vim_cmd_tabclose(s, d, classes),
         15 => vim_cmd_tabedit(s, d, classes),

@@ -20,7 +20,7 @@ use Rattle.ranges.specs.declared.range.RangeRead.{RangeRead}
 
 module _ (b : ℕ) (w : isWord b ≡ true) where
   -- a word's byte is none that is not a word's
-  other : (x : ℕ) → isWord x ≡ false → eqb b x ≡ false
+  pub other : (x : ℕ) → isWord x ≡ false → eqb b x ≡ false
   other x h = ne-eqb b x (λ e. false≢true (sym h ∙ ap isWord (sym e) ∙ w))
 
   -- nor a digit

@@ -7,6 +7,7 @@ use ranges::range::RangeRead;
 use ranges::range::parse_range;
 use scan::classes::Kind;
 use scan::classes::classes;
+use scan::classes::is_kind;
 use scan::part::byte_at;
 use scan::part::part;
 use scan::run::run_end;
@@ -71,6 +72,21 @@ pub fn parse_cmd_name(s: &[u8], at: usize, classes: &[u8; 256]) -> WordRead
     WordRead::Word(e, e)
 }
 
+// The same description, its range taken apart and put together again, so that its parts travel in registers.
+pub fn description_again(d: CommandDescription) -> CommandDescription
+    ensures { λ r. ⌜ r ≡ d ⌝ }
+{
+    let g = d.range;
+    CommandDescription {
+        range: range_again(g),
+        word: d.word,
+        end: d.end,
+        bang: d.bang,
+        argument: d.argument,
+        stop: d.stop,
+    }
+}
+
 // Where the text of an argument at `a` ends, where the first 0x0A of the whole text is known.
 fn text_from(s: &[u8], a: usize, stop: usize, classes: &[u8; 256]) -> usize
     requires { ⌜ stop ≡ runAt isText (now s) 0 ⌝ }
@@ -131,11 +147,14 @@ fn parse_cmd_after_range(
     }
 }
 
-// Past the spaces, the colons and the spaces that a text may start with.
+// Past the spaces, the colons and the spaces that a text may start with. A word's first byte tells that there are none.
 fn line_start(s: &[u8], classes: &[u8; 256]) -> usize
     requires { ⌜ Classes (now classes) ⌝ }
     ensures { λ r. ⌜ r ≡ startOf (now (s .entry)) ⌝ }
 {
+    if is_kind(classes, Kind::Word, byte_at(s, 0)) {
+        return 0;
+    }
     let i = run_end(s, skip_spaces(s, 0, classes), classes, Kind::Colon);
     skip_spaces(s, i, classes)
 }
@@ -149,7 +168,7 @@ pub fn parse_cmd_descr(s: &[u8], stop: usize, classes: &[u8; 256]) -> CommandRea
     let i = line_start(s, classes);
     let range = parse_range(s, i, classes);
     match range {
-        RangeRead::Absent => parse_cmd_after_range(s, range, i, stop, classes),
+        RangeRead::Absent => parse_cmd_after_range(s, RangeRead::Absent, i, stop, classes),
         RangeRead::Found(_, j) => parse_cmd_after_range(s, range, j, stop, classes),
         RangeRead::TooLarge => CommandRead::TooLarge,
     }

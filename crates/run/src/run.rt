@@ -14,6 +14,7 @@ use commands::next::changed;
 use context::context::CommandContext;
 use focus::focus::CommandError;
 use reading::line::CommandRead;
+use reading::line::description_again;
 use reading::line::parse_cmd_descr;
 use scan::part::part;
 ghost use mathlib.Core.Path.{_≡_};
@@ -78,7 +79,7 @@ pub fn run(line: &[u8], added: &[u8], store: &mut [u8], classes: &[u8; 256]) -> 
             Next::Runs(k, d) => {
                 let a = from + d.argument;
                 let e = from + d.stop;
-                let y = handle(k, s, d, x, classes);
+                let y = handle(k, s, description_again(d), x, classes);
                 return end_done(line, y, a, e, m as u64, store, classes);
             }
             Next::Again(ch, a, e) => {

@@ -22,7 +22,7 @@ use reading::line::CommandDescription;
 use reading::line::argument;
 ghost use mathlib.Core.Path.{_≡_};
 ghost use Rattle.scan.specs.Bytes.{Classes};
-ghost use Rattle.windows.specs.Open.{targetOf, openedBy, opened, opening as openingOf, viewing as viewingOf, sizedBy, sizeOf, windowTarget, windowBy, switchBy, tabAt, tabBy, splitOf, vsplitOf, viewOf, tabeditOf};
+ghost use Rattle.windows.specs.Open.{targetOf, openedBy, opened, opening as openingOf, viewing as viewingOf, sizedBy, sizeOf, windowTarget, windowBy, switchBy, tabAt, tabBy, splitOf, vsplitIn, viewOf, tabeditOf};
 
 // What is opened, or a refusal.
 pub enum Opened {
@@ -165,12 +165,12 @@ pub fn vim_cmd_sp(s: &[u8], d: CommandDescription, x: CommandContext, classes: &
     )
 }
 
-// The `:vsplit` command. Aliases: `vs`, `vsp`. Does what split does along the vertical axis, whatever the context says.
-pub fn vim_cmd_vs(s: &[u8], d: CommandDescription, x: CommandContext, classes: &[u8; 256]) -> Done
-    requires { ⌜ Classes (now classes) ⌝ }
-    ensures { λ r. ⌜ r ≡ vsplitOf (now (s .entry)) d x ⌝ }
+// The `:vsplit` command. Aliases: `vs`, `vsp`. Does what split does along the vertical axis, whatever the context says: the context in which
+// split is then run.
+pub fn vim_cmd_vs(x: CommandContext) -> CommandContext
+    ensures { λ r. ⌜ r ≡ vsplitIn x ⌝ }
 {
-    vim_cmd_sp(s, d, x.with_axis(Axis::Vertical), classes)
+    x.with_axis(Axis::Vertical)
 }
 
 // The `:view` command. Alias: `vie`. Opens a file for reading.

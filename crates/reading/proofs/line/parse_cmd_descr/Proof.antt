@@ -34,7 +34,6 @@ returns c =
       c .parse-cmd-after-range .ensures,
       ← c .before .before .before .before .line-start .ensures,
       sym (c .before .before .before .parse-range .ensures) ∙ c .before .enum-told .given .1,
-      c .before .enum-told .given .1,
     )
 
 returns-2 : tie.Need-returns-2

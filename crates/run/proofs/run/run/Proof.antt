@@ -112,20 +112,23 @@ add-a c = omega (arith, runs-in c, line-fits (c .before .before .before .before)
 add-e : tie.Need-add-e Inv-loop μ-loop
 add-e c = omega (arith, runs-in (c .before), line-fits (c .before .before .before .before .before), c .before .before .before .before .before .before .before .loop .inv .1)
 
+description-again-requires : tie.Need-description-again-requires Inv-loop μ-loop
+description-again-requires c κs = search needs
+
 handle-requires : tie.Need-handle-requires Inv-loop μ-loop
-handle-requires c κs = c .before .before .before .before .before .before .before .before .before .before .before .before .before .before .before .pre .0
+handle-requires c κs = c .before .before .before .before .before .before .before .before .before .before .before .before .before .before .before .before .pre .0
 
 end-done-requires : tie.Need-end-done-requires Inv-loop μ-loop
-end-done-requires c κs = (c .before .before .before .before .before .before .before .before .before .before .before .before .before .before .before .before .before .pre .0, rw (c .before .before .before .before .before .before .before .before .before .loop .inv .0) (c .before .before .before .before .before .before .before .before .before .before .before .before .before .before .before .before .before .pre .1))
+end-done-requires c κs = (c .before .before .before .before .before .before .before .before .before .before .before .before .before .before .before .before .before .before .pre .0, rw (c .before .before .before .before .before .before .before .before .before .before .loop .inv .0) (c .before .before .before .before .before .before .before .before .before .before .before .before .before .before .before .before .before .before .pre .1))
 
 same-length-4 : tie.Need-same-length-4 Inv-loop μ-loop
-same-length-4 c = c .before .before .end-done .ensures .1 .1 ∙ ap length (c .before .before .before .before .before .before .before .before .before .before .before .before .loop .inv .0)
+same-length-4 c = c .before .before .end-done .ensures .1 .1 ∙ ap length (c .before .before .before .before .before .before .before .before .before .before .before .before .before .loop .inv .0)
 
 returns-4 : tie.Need-returns-4 Inv-loop μ-loop
 returns-4 c = ended
-    (rw (c .before .before .before .before .handle .ensures, c .before .before .before .before .before .before .before .before .before .before .before .part2 .ensures) at (c .before .before .end-done .ensures))
-    (c .before .before .before .before .before .before .before .before .before .before .before .before .loop .inv .0)
-    (held-runs _ _ _ _ _ _ _ (c .before .before .before .before .before .before .before .before .before .before .before .before .loop .inv .1) _ _ (sym (c .before .before .before .before .before .before .before .before .before .before .decide .ensures ∙ ap (decideOf _) (c .before .before .before .before .before .before .before .before .before .before .before .part2 .ensures)) ∙ c .before .before .before .before .before .before .before .before .k .given .1))
+    (rw (c .before .before .before .before .handle .ensures, c .before .before .before .before .before .description-again .ensures, c .before .before .before .before .before .before .before .before .before .before .before .before .part2 .ensures) at (c .before .before .end-done .ensures))
+    (c .before .before .before .before .before .before .before .before .before .before .before .before .before .loop .inv .0)
+    (held-runs _ _ _ _ _ _ _ (c .before .before .before .before .before .before .before .before .before .before .before .before .before .loop .inv .1) _ _ (sym (c .before .before .before .before .before .before .before .before .before .before .before .decide .ensures ∙ ap (decideOf _) (c .before .before .before .before .before .before .before .before .before .before .before .before .part2 .ensures)) ∙ c .before .before .before .before .before .before .before .before .before .k .given .1))
 
 enum-known-ch : tie.Need-enum-known-ch Inv-loop μ-loop
 enum-known-ch c = search needs
@@ -182,6 +185,7 @@ run-spec =
     enum-known-k
     add-a
     add-e
+    description-again-requires
     handle-requires
     end-done-requires
     same-length-4
