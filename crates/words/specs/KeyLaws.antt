@@ -2,17 +2,18 @@
 -- Assumes nothing.
 use mathlib.Core.Path.{_≡_, refl, _∙_, sym, ap}
 use mathlib.Core.Bool.{Bool, true, false, _&&_, false≢true}
-use mathlib.Core.List.{List, [], _∷_}
+use mathlib.Core.List.{List, [], _∷_, _++_}
 use Prim.Native.Nat.{ℕ, zero, suc, _+_, _-_, _*_, _^_, _<_, _≤_}
+use native.Mathlib.Nat.{pow-suc, add-mul, mul-assoc, mul-comm, zero-add}
 use native.Mathlib.Omega.{arith}
+use native.Mathlib.Decide.{decLt}
 use lib.Dec.{eqb, ltb, leb}
-use lib.ListN.{length, getD, take, drop, drop-of-length-le, length-take, length-drop}
-use lib.Seq.{take-all}
+use lib.ListN.{length, getD, take, drop, drop-of-length-le, length-drop}
+use lib.Seq.{take-all, take-add, drop-drop, length-take-le}
 use borrow.Author.Tests.{eqb-true, eqb-false, eq-eqb, ne-eqb, ltb-true, leb-true}
-use Rattle.scan.specs.Scan.{partOf}
-use Rattle.scan.specs.RunLaws.{and-left, and-right}
+use Rattle.scan.specs.RunLaws.{and-left, and-right, drop-step}
 use Rattle.words.specs.Words.{Row, aliases, names, shipped, same, lookupIn, lookup}
-use Rattle.words.specs.Keys.{packFrom, pack, ofLength, keysOf, keyIn, keyed}
+use Rattle.words.specs.Keys.{packFrom, pack, numberAt, ofLength, keysOf, keyIn, keyed}
 use Rattle.words.specs.declared.words.Named.{Named}
 
 -- bytes ---------------------------------------------------------------------------------------------------------------------------
@@ -173,9 +174,6 @@ unfolding pack packFrom
 short-key w h l =
     let e = shipped-key w h in rw (take-all 8 w l, drop-of-length-le w {i = 8} l) at e
 
-pub long-key : (w : List ℕ) → Bytes w → lookup w ≡ keyed (length w) (pack (partOf w 0 8)) (pack (partOf w 8 (length w)))
-long-key w h = rw (take-all (length w - 8) (drop 8 w) (omega (arith, length-drop 8 w))) (shipped-key w h)
-
 -- no shipped word has no byte, and none has more than eleven --------------------------------------------------------------------------
 
 abbrev testSizes : List Row → Bool
@@ -204,22 +202,65 @@ keyed-empty f b = refl
 pub lookup-longer : (w : List ℕ) → Bytes w → 12 ≤ length w → lookup w ≡ Named.Unknown
 lookup-longer w h l = shipped-key w h ∙ keyed-longer (length w) _ _ l
 
-pub part-size : (w : List ℕ) (a e : ℕ) → length (partOf w a e) ≤ e - a
-part-size w a e = omega (arith, length-take (e - a) (drop a w))
+-- numbers of bytes in a row -------------------------------------------------------------------------------------------------------
 
--- one byte more, for the loop
-pub pack-on : (k b : ℕ) (bs : List ℕ) → packFrom k (b ∷ bs) ≡ packFrom (k * 256 + b) bs
+pack-joined : (k : ℕ) (xs ys : List ℕ) → packFrom k (xs ++ ys) ≡ packFrom (packFrom k xs) ys
 unfolding packFrom
-pack-on k b bs = refl
+pack-joined k [] ys = refl
+pack-joined k (x ∷ xs) ys = pack-joined (k * 256 + x) xs ys
 
--- seven bytes are below 2^56
-pub pow-seven : (i : ℕ) → i ≤ 7 → 256 ^ i ≤ 72057594037927936
-pow-seven zero h = omega arith
-pow-seven (suc zero) h = omega arith
-pow-seven (suc (suc zero)) h = omega arith
-pow-seven (suc (suc (suc zero))) h = omega arith
-pow-seven (suc (suc (suc (suc zero)))) h = omega arith
-pow-seven (suc (suc (suc (suc (suc zero))))) h = omega arith
-pow-seven (suc (suc (suc (suc (suc (suc zero)))))) h = omega arith
-pow-seven (suc (suc (suc (suc (suc (suc (suc zero))))))) h = omega arith
-pow-seven (suc (suc (suc (suc (suc (suc (suc (suc i)))))))) h = absurd (omega arith)
+-- what stands before n bytes counts 256 ^ n times
+pack-behind : (k : ℕ) (ys : List ℕ) → packFrom k ys ≡ k * 256 ^ length ys + packFrom 0 ys
+unfolding packFrom
+pack-behind k [] = omega arith
+pack-behind k (y ∷ ys) =
+    let p = 256 ^ length ys in
+    let e : 256 ^ suc (length ys) ≡ p * 256 = pow-suc 256 (length ys) in
+    let d : (k * 256 + y) * p ≡ k * 256 * p + y * p = add-mul (k * 256) y p in
+    let f : k * 256 * p ≡ k * (256 * p) = mul-assoc k 256 p in
+    let g : 256 * p ≡ p * 256 = mul-comm 256 p in
+    let i : packFrom (0 * 256 + y) ys ≡ y * p + packFrom 0 ys = ap (λ (m : ℕ). packFrom m ys) (zero-add y) ∙ pack-behind y ys in
+    pack-behind (k * 256 + y) ys ∙ omega (arith, d, i, ap (λ (m : ℕ). k * m) (g ∙ sym e), f)
+
+-- the n bytes behind m others
+pub number-join : (w : List ℕ) (i m n a b : ℕ) → i + (m + n) ≤ length w → a ≡ numberAt w i m → b ≡ numberAt w (i + m) n → a * 256 ^ n + b ≡ numberAt w i (m + n)
+unfolding numberAt pack
+number-join w i m n a b h e f =
+    let l = drop i w in
+    let xs = take m l in
+    let ys = take n (drop m l) in
+    let d : drop m l ≡ drop (i + m) w = drop-drop m i w in
+    let s : length ys ≡ n = length-take-le n (drop m l) (omega (arith, length-drop i w, length-drop m l)) in
+    let t : take (m + n) l ≡ xs ++ ys = take-add m n l in
+    rw (e, f, ← d) (sym (ap (packFrom 0) t ∙ pack-joined 0 xs ys ∙ pack-behind (packFrom 0 xs) ys ∙ ap (λ (z : ℕ). packFrom 0 xs * 256 ^ z + packFrom 0 ys) s))
+
+pub number-one : (w : List ℕ) (i : ℕ) → i < length w → getD w i 0 ≡ numberAt w i 1
+unfolding numberAt pack packFrom
+number-one w i h = rw (drop-step w i h) (omega arith)
+
+-- what its number leads to is what a word leads to: of at most eight bytes, and of more by two numbers
+pub short-found : (w : List ℕ) (n f : ℕ) → Bytes w → length w ≡ n → n ≤ 8 → f ≡ numberAt w 0 n → keyed n f 0 ≡ lookup w
+unfolding numberAt
+short-found w n f h e l k =
+    let p : numberAt w 0 n ≡ pack w = ap pack (take-all n w (omega arith)) in
+    rw (k ∙ p, ← e) (sym (short-key w h (omega arith)))
+
+pub long-found : (w : List ℕ) (m n f b : ℕ) → Bytes w → length w ≡ m → m ≡ 8 + n → f ≡ numberAt w 0 8 → b ≡ numberAt w 8 n → keyed m f b ≡ lookup w
+unfolding numberAt
+long-found w m n f b h e l j k =
+    let p : numberAt w 8 n ≡ pack (drop 8 w) = ap pack (take-all n (drop 8 w) (omega (arith, length-drop 8 w))) in
+    rw (j, k ∙ p, ← e) (sym (shipped-key w h))
+
+-- no shipped word has no byte or more than eleven
+between : (n : ℕ) → (n ≡ 1 → ⊥) → (n ≡ 2 → ⊥) → (n ≡ 3 → ⊥) → (n ≡ 4 → ⊥) → (n ≡ 5 → ⊥) → (n ≡ 6 → ⊥) → n ≤ 6 → n ≡ 0
+between n a b c d e f h = omega arith
+
+above : (n : ℕ) → (n ≡ 7 → ⊥) → (n ≡ 8 → ⊥) → (n ≡ 9 → ⊥) → (n ≡ 10 → ⊥) → (n ≡ 11 → ⊥) → 7 ≤ n → 12 ≤ n
+above n a b c d e h = omega arith
+
+pub none-found : (w : List ℕ) (n : ℕ) → Bytes w → length w ≡ n → (n ≡ 1 → ⊥) → (n ≡ 2 → ⊥) → (n ≡ 3 → ⊥) → (n ≡ 4 → ⊥) → (n ≡ 5 → ⊥) → (n ≡ 6 → ⊥) → (n ≡ 7 → ⊥) → (n ≡ 8 → ⊥) → (n ≡ 9 → ⊥) → (n ≡ 10 → ⊥) → (n ≡ 11 → ⊥) → lookup w ≡ Named.Unknown
+none-found w n h l a b c d e f g i j k m = go (decLt n 7)
+  where
+    go : Dec (n < 7) → lookup w ≡ Named.Unknown
+    go (yes p) = let z = l ∙ between n a b c d e f (omega arith) in shipped-key w h ∙ rw z (keyed-empty _ _)
+    go (no p) = lookup-longer w h (rw l (above n g i j k m (omega arith)))

@@ -1,14 +1,13 @@
 // The shipped words: 28 names and 42 aliases, 68 different words, each leading to a command by its number in default_cmds' order.
 // A word is looked up by its length and by two numbers, which its first eight bytes and the rest make.
-use scan::part::part;
 ghost use mathlib.Core.Path.{_≡_};
 ghost use mathlib.Core.Bool.{cond};
-ghost use Prim.Native.Nat.{_≤_};
+ghost use Prim.Native.Nat.{_+_, _≤_, _<_};
 ghost use lib.Dec.{eqb};
 ghost use lib.ListN.{length};
 ghost use Rattle.words.specs.declared.words.Named.{Named};
 ghost use Rattle.words.specs.Words.{lookup as lookupOf};
-ghost use Rattle.words.specs.Keys.{pack as packed, keyed};
+ghost use Rattle.words.specs.Keys.{numberAt, keyed};
 
 // What a word leads to.
 pub enum Named {
@@ -16,18 +15,76 @@ pub enum Named {
     Unknown,
 }
 
-// The number that at most eight bytes make, the first byte highest.
-fn pack(w: &[u8]) -> u64
-    requires { ⌜ length (now w) ≤ 8 ⌝ }
-    ensures { λ r. ⌜ r ≡ packed (now (w .entry)) ⌝ }
+// The number of the byte at `i`. Of several the first counts highest.
+fn one(w: &[u8], i: usize) -> u64
+    requires { ⌜ i + 1 ≤ length (now w) ⌝ }
+    ensures value { λ r. ⌜ r ≡ numberAt (now (w .entry)) i 1 ⌝ }
+    ensures bound { λ r. ⌜ r < 256 ⌝ }
 {
-    let mut k: u64 = 0;
-    let mut i: usize = 0;
-    while i < w.len() {
-        k = k * 256 + w[i] as u64;
-        i += 1;
-    }
-    k
+    w[i] as u64
+}
+
+// The number of the two bytes from `i` on.
+fn two(w: &[u8], i: usize) -> u64
+    requires { ⌜ i + 2 ≤ length (now w) ⌝ }
+    ensures value { λ r. ⌜ r ≡ numberAt (now (w .entry)) i 2 ⌝ }
+    ensures bound { λ r. ⌜ r < 65536 ⌝ }
+{
+    one(w, i) * 256 + one(w, i + 1)
+}
+
+// The number of the three bytes from `i` on.
+fn three(w: &[u8], i: usize) -> u64
+    requires { ⌜ i + 3 ≤ length (now w) ⌝ }
+    ensures value { λ r. ⌜ r ≡ numberAt (now (w .entry)) i 3 ⌝ }
+    ensures bound { λ r. ⌜ r < 16777216 ⌝ }
+{
+    two(w, i) * 256 + one(w, i + 2)
+}
+
+// The number of the four bytes from `i` on.
+fn four(w: &[u8], i: usize) -> u64
+    requires { ⌜ i + 4 ≤ length (now w) ⌝ }
+    ensures value { λ r. ⌜ r ≡ numberAt (now (w .entry)) i 4 ⌝ }
+    ensures bound { λ r. ⌜ r < 4294967296 ⌝ }
+{
+    two(w, i) * 65536 + two(w, i + 2)
+}
+
+// The number of the five bytes from `i` on.
+fn five(w: &[u8], i: usize) -> u64
+    requires { ⌜ i + 5 ≤ length (now w) ⌝ }
+    ensures value { λ r. ⌜ r ≡ numberAt (now (w .entry)) i 5 ⌝ }
+    ensures bound { λ r. ⌜ r < 1099511627776 ⌝ }
+{
+    four(w, i) * 256 + one(w, i + 4)
+}
+
+// The number of the six bytes from `i` on.
+fn six(w: &[u8], i: usize) -> u64
+    requires { ⌜ i + 6 ≤ length (now w) ⌝ }
+    ensures value { λ r. ⌜ r ≡ numberAt (now (w .entry)) i 6 ⌝ }
+    ensures bound { λ r. ⌜ r < 281474976710656 ⌝ }
+{
+    four(w, i) * 65536 + two(w, i + 4)
+}
+
+// The number of the seven bytes from `i` on.
+fn seven(w: &[u8], i: usize) -> u64
+    requires { ⌜ i + 7 ≤ length (now w) ⌝ }
+    ensures value { λ r. ⌜ r ≡ numberAt (now (w .entry)) i 7 ⌝ }
+    ensures bound { λ r. ⌜ r < 72057594037927936 ⌝ }
+{
+    four(w, i) * 16777216 + three(w, i + 4)
+}
+
+// The number of the eight bytes from `i` on.
+fn eight(w: &[u8], i: usize) -> u64
+    requires { ⌜ i + 8 ≤ length (now w) ⌝ }
+    ensures value { λ r. ⌜ r ≡ numberAt (now (w .entry)) i 8 ⌝ }
+    ensures bound { λ r. ⌜ r < 18446744073709551616 ⌝ }
+{
+    four(w, i) * 4294967296 + four(w, i + 4)
 }
 
 // The words of 1 byte.
@@ -275,47 +332,22 @@ fn word11(f: u64, b: u64) -> Named
     }
 }
 
-// A word of at most eight bytes.
-fn short_word(n: usize, f: u64) -> Named
-    requires { ⌜ n ≤ 8 ⌝ }
-    ensures { λ r. ⌜ r ≡ keyed n f 0 ⌝ }
-{
-    match n {
-        1 => word1(f),
-        2 => word2(f),
-        3 => word3(f),
-        4 => word4(f),
-        5 => word5(f),
-        6 => word6(f),
-        7 => word7(f),
-        8 => word8(f),
-        _ => Named::Unknown,
-    }
-}
-
-// A longer word.
-fn long_word(n: usize, f: u64, b: u64) -> Named
-    requires { ⌜ 9 ≤ n ⌝ }
-    ensures { λ r. ⌜ r ≡ keyed n f b ⌝ }
-{
-    match n {
-        9 => word9(f, b),
-        10 => word10(f, b),
-        11 => word11(f, b),
-        _ => Named::Unknown,
-    }
-}
-
 // What a word leads to with the words as shipped.
 pub fn lookup(w: &[u8]) -> Named
     ensures { λ r. ⌜ r ≡ lookupOf (now (w .entry)) ⌝ }
 {
-    let n = w.len();
-    if n <= 8 {
-        return short_word(n, pack(w));
+    match w.len() {
+        1 => word1(one(w, 0)),
+        2 => word2(two(w, 0)),
+        3 => word3(three(w, 0)),
+        4 => word4(four(w, 0)),
+        5 => word5(five(w, 0)),
+        6 => word6(six(w, 0)),
+        7 => word7(seven(w, 0)),
+        8 => word8(eight(w, 0)),
+        9 => word9(eight(w, 0), one(w, 8)),
+        10 => word10(eight(w, 0), two(w, 8)),
+        11 => word11(eight(w, 0), three(w, 8)),
+        _ => Named::Unknown,
     }
-    if 16 < n {
-        return Named::Unknown;
-    }
-    long_word(n, pack(part(w, 0, 8)), pack(part(w, 8, n)))
 }
