@@ -6,12 +6,12 @@ use oracle::vector::Op;
 /// Lines that are measured together.
 pub struct Kind {
     pub name: String,
-    /// Whether all 32 aliases are set, each of 24 bytes.
-    pub aliases: bool,
+    /// How many bytes the word of each of 32 aliases has; 0 where none is set.
+    pub aliases: usize,
     pub lines: Vec<String>,
 }
 
-fn kind(name: &str, aliases: bool, line: impl Into<String>) -> Kind {
+fn kind(name: &str, aliases: usize, line: impl Into<String>) -> Kind {
     Kind {
         name: name.into(),
         aliases,
@@ -21,14 +21,20 @@ fn kind(name: &str, aliases: bool, line: impl Into<String>) -> Kind {
 
 /// A line that is its own name.
 fn short(line: &str) -> Kind {
-    kind(&format!("`{line}`"), false, line)
+    kind(&format!("`{line}`"), 0, line)
 }
 
 /// The words of the aliases that are set, all of the same length and with the same beginning.
-pub fn alias(number: usize) -> String {
+pub fn alias(number: usize, bytes: usize) -> String {
     let last = char::from(b'a' + (number % 26) as u8);
     let before = char::from(b'A' + (number / 26) as u8);
-    format!("{}{before}{last}", "z".repeat(22))
+    format!("{}{before}{last}", "z".repeat(bytes - 2))
+}
+
+/// Lines with all aliases set: a shipped word, the last alias, and a word that no command has.
+fn aliased(bytes: usize) -> [Kind; 3] {
+    [("`q`", "q".to_owned()), ("the last of them", alias(31, bytes)), ("an unknown word", "z".repeat(bytes))]
+        .map(|(name, line)| kind(&format!("32 aliases of {bytes} bytes, {name}"), bytes, line))
 }
 
 /// All kinds but the mixed lines: short commands, names, prefixes, refusals, all aliases set, and lines of 1,024 bytes.
@@ -41,18 +47,17 @@ pub fn kinds() -> Vec<Kind> {
         short("tabm 3"),
         short("w! \"a b\""),
         short("vert tab hor vert sp abcdefghijkl"),
-        kind("255 times `tab `, then `q`", false, "tab ".repeat(255) + "q"),
+        kind("255 times `tab `, then `q`", 0, "tab ".repeat(255) + "q"),
         short("3 q"),
         short("foo"),
         short("tabn q"),
         short("$+1close"),
-        kind("32 aliases, `q`", true, "q"),
-        kind("32 aliases, the last of them", true, alias(31)),
-        kind("32 aliases, an unknown word", true, "z".repeat(24)),
     ];
+    all.extend(aliased(4));
+    all.extend(aliased(24));
     all.extend(SHAPES.iter().map(|shape| Kind {
         name: format!("1,024 bytes: {}", shape.name),
-        aliases: false,
+        aliases: 0,
         lines: vec![(shape.line)(1024)],
     }));
     all
@@ -102,7 +107,7 @@ pub fn mixed() -> Kind {
     let bytes: usize = lines.iter().map(String::len).sum();
     Kind {
         name: format!("20,000 mixed lines, {} bytes each", bytes / lines.len()),
-        aliases: false,
+        aliases: 0,
         lines,
     }
 }

@@ -42,10 +42,11 @@ impl Rust {
 fn both(kind: &Kind) -> (Rust, Entry) {
     let (mut rust, mut entry) = (Rust::fresh(), Entry::fresh());
 
-    if kind.aliases {
+    if kind.aliases > 0 {
         for number in 0..32 {
-            rust.add_alias(&alias(number));
-            entry.add_alias(&alias(number), CLOSE);
+            let word = alias(number, kind.aliases);
+            rust.add_alias(&word);
+            entry.add_alias(&word, CLOSE);
         }
     }
 
@@ -115,7 +116,7 @@ fn growth() {
         let times = lengths.map(|n| {
             least(&Kind {
                 name: String::new(),
-                aliases: false,
+                aliases: 0,
                 lines: vec![(shape.line)(n)],
             })
         });
