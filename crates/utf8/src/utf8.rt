@@ -1,16 +1,18 @@
-// UTF-8 by RFC 3629: ASCII first, by vector instructions, then one sequence after the other.
+// UTF-8 by RFC 3629: ASCII first, then blocks of characters, both by vector instructions, and between them one sequence after the other.
 use super::ascii::any_high_before;
+use super::block::characters_end;
 use scan::part::byte_at;
 ghost use mathlib.Core.Path.{_≡_};
 ghost use mathlib.Core.Bool.{true};
-ghost use Prim.Native.Nat.{_≤_, _<_};
+ghost use Prim.Native.Nat.{_<_};
 ghost use Rattle.scan.specs.Bytes.{within as withinOf};
 ghost use lib.ListN.{length};
 ghost use Rattle.scan.specs.Scan.{byteAt};
 ghost use Rattle.utf8.specs.Utf8 as utf8s;
 ghost use Rattle.utf8.specs.Utf8Laws.{Sequence};
 
-fn within(lo: u8, hi: u8, b: u8) -> bool
+// Whether a byte is from `lo` to `hi`.
+pub fn within(lo: u8, hi: u8, b: u8) -> bool
     ensures { λ r. ⌜ r ≡ withinOf lo hi b ⌝ }
 {
     lo <= b && b <= hi
@@ -102,12 +104,16 @@ fn any_sequence(s: &[u8], i: usize) -> SequenceRead
     SequenceRead::Next(i + 4)
 }
 
-// The same, with the commonest, of two bytes, first.
+// The same, with the commonest first: those of one byte and of two.
 fn sequence(s: &[u8], i: usize) -> SequenceRead
     requires { ⌜ i < length (now s) ⌝ }
     ensures { λ r. ⌜ Sequence (now (s .entry)) i r ⌝ }
 {
-    if within(0xC2, 0xDF, s[i]) {
+    let b = s[i];
+    if b < 0x80 {
+        return SequenceRead::Next(i + 1);
+    }
+    if within(0xC2, 0xDF, b) {
         if follows(s, i + 1, 0x80, 0xBF) {
             return SequenceRead::Next(i + 2);
         }
@@ -116,34 +122,37 @@ fn sequence(s: &[u8], i: usize) -> SequenceRead
     any_sequence(s, i)
 }
 
-// The first byte from `at` on that is not ASCII, or the end: the text is judged from there as from `at`.
-fn ascii_end(s: &[u8], at: usize) -> usize
-    ensures same { λ r. ⌜ utf8s.utf8At utf8s.whole (now (s .entry)) at ≡ utf8s.utf8At utf8s.whole (now (s .entry)) r ⌝ }
-    ensures later { λ r. ⌜ at ≤ r ⌝ }
+// Sequences one after the other from `at` on, until they are of `n` bytes or more, or the text ends.
+fn sequences(s: &[u8], at: usize, n: usize) -> SequenceRead
+    requires { ⌜ at < length (now s) ⌝ }
+    requires { ⌜ 0 < n ⌝ }
+    ensures { λ r. ⌜ Sequence (now (s .entry)) at r ⌝ }
 {
     let mut i = at;
-    while i < s.len() {
-        if 0x80 <= s[i] {
-            return i;
-        }
-        i += 1;
+    while i < s.len() && i - at < n {
+        let SequenceRead::Next(j) = sequence(s, i) else {
+            return SequenceRead::Bad;
+        };
+        i = j;
     }
-    i
+    SequenceRead::Next(i)
 }
 
-// The bytes are UTF-8 by RFC 3629.
+// The bytes are UTF-8 by RFC 3629. A block needs two bytes before it; where one is not told, sequences follow over as many bytes.
 pub fn is_utf8(s: &[u8]) -> bool
     ensures { λ r. ⌜ r ≡ utf8s.isUtf8 (now (s .entry)) ⌝ }
 {
     if !any_high_before(s, s.len()) {
         return true;
     }
-    let mut i = ascii_end(s, 0);
+    let mut i: usize = 0;
+    let mut n: usize = 2;
     while i < s.len() {
-        let SequenceRead::Next(j) = sequence(s, i) else {
+        let SequenceRead::Next(j) = sequences(s, i, n) else {
             return false;
         };
-        i = ascii_end(s, j);
+        i = characters_end(s, j);
+        n = 32;
     }
     true
 }

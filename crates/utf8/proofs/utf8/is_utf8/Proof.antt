@@ -1,7 +1,7 @@
 -- `utf8::is_utf8` meets its contract. The invariant: the text is judged from i as from its start.
 -- Assumes nothing.
-use mathlib.Core.Path.{_≡_, _∙_, sym}
-use Prim.Native.Nat.{_-_}
+use mathlib.Core.Path.{_≡_, _∙_, refl, sym}
+use Prim.Native.Nat.{_-_, _<_}
 use native.Mathlib.Omega.{arith}
 use lib.ListN.{length}
 use Rattle.utf8.specs.Utf8.{isUtf8, utf8At, whole}
@@ -12,10 +12,10 @@ use Rattle.utf8.proofs.utf8.is_utf8.Statement.{statement}
 use Rattle.utf8.proofs.utf8.is_utf8.Tie as tie
 
 abbrev Inv-loop : tie.InvT-loop
-Inv-loop s i₀ i = isUtf8 s ≡ utf8At whole s i
+Inv-loop s i₀ n₀ i n = (isUtf8 s ≡ utf8At whole s i) × (0 < n)
 
 abbrev μ-loop : tie.MeasureT-loop
-μ-loop s i₀ i = length s - i
+μ-loop s i₀ n₀ i n = length s - i
 
 any-high-before-requires : tie.Need-any-high-before-requires Inv-loop μ-loop
 any-high-before-requires c κs = search needs
@@ -23,15 +23,12 @@ any-high-before-requires c κs = search needs
 returns : tie.Need-returns Inv-loop μ-loop
 returns c = sym (ascii-all _ (c .before .any-high-before .ensures (not-true _ (c .if1 .taken))))
 
-ascii-end-requires : tie.Need-ascii-end-requires Inv-loop μ-loop
-ascii-end-requires c κs = search needs
-
 loop-holds : tie.Need-loop-holds Inv-loop μ-loop
 unfolding isUtf8
-loop-holds c = c .ascii-end .ensures .0
+loop-holds c = (refl, omega arith)
 
-sequence-requires : tie.Need-sequence-requires Inv-loop μ-loop
-sequence-requires c κs = search needs
+sequences-requires : tie.Need-sequences-requires Inv-loop μ-loop
+sequences-requires c κs = search needs
 
 enum-known-j : tie.Need-enum-known-j Inv-loop μ-loop
 enum-known-j c = search needs
@@ -40,19 +37,21 @@ enum-told : tie.Need-enum-told Inv-loop μ-loop
 enum-told c = search needs
 
 returns-2 : tie.Need-returns-2 Inv-loop μ-loop
-returns-2 c = sym (c .before .before .before .before .loop .inv ∙ rw (c .enum-told .given .1) at (c .before .before .sequence .ensures))
+returns-2 c = sym (c .before .before .before .before .loop .inv .0 ∙ rw (c .enum-told .given .1) at (c .before .before .sequences .ensures))
 
-ascii-end-requires-2 : tie.Need-ascii-end-requires-2 Inv-loop μ-loop
-ascii-end-requires-2 c κs = search needs
+characters-end-requires : tie.Need-characters-end-requires Inv-loop μ-loop
+characters-end-requires c κs = search needs
 
 loop-less : tie.Need-loop-less Inv-loop μ-loop
-loop-less c = let e = rw (c .before .before .j .given .1) at (c .before .before .before .before .sequence .ensures) in omega (arith, e .1, c .ascii-end2 .ensures .1)
+loop-less c = let e = rw (c .before .before .j .given .1) at (c .before .before .before .before .sequences .ensures) in omega (arith, e .1, c .characters-end .ensures .1)
 
 loop-again : tie.Need-loop-again Inv-loop μ-loop
-loop-again c = let e = rw (c .before .before .j .given .1) at (c .before .before .before .before .sequence .ensures) in c .before .before .before .before .before .before .loop .inv ∙ e .0 ∙ c .ascii-end2 .ensures .0
+loop-again c =
+    let e = rw (c .before .before .j .given .1) at (c .before .before .before .before .sequences .ensures) in
+    (c .before .before .before .before .before .before .loop .inv .0 ∙ e .0 ∙ c .characters-end .ensures .0, omega arith)
 
 returns-3 : tie.Need-returns-3 Inv-loop μ-loop
-returns-3 c = sym (c .before .loop .inv ∙ utf8-end _ _ _ (search needs))
+returns-3 c = sym (c .before .loop .inv .0 ∙ utf8-end _ _ _ (search needs))
 
 pub is-utf8-spec : {M : Type 1} → statement M
 is-utf8-spec =
@@ -62,13 +61,12 @@ is-utf8-spec =
     μ-loop
     any-high-before-requires
     returns
-    ascii-end-requires
     loop-holds
-    sequence-requires
+    sequences-requires
     enum-known-j
     enum-told
     returns-2
-    ascii-end-requires-2
+    characters-end-requires
     loop-less
     loop-again
     returns-3)
