@@ -12,7 +12,7 @@ ghost use Rattle.scan.specs.Bytes.{within as withinOf};
 ghost use Rattle.utf8.specs.Utf8Blocks.{Usual, Must, Joined, JoinedFrom, Judged, PlaceAt};
 
 // How many bytes a block has.
-const BLOCK: usize = 32;
+pub const BLOCK: usize = 32;
 
 fn larger(a: u8, b: u8) -> u8
     ensures { λ r. ⌜ r ≡ a + (b - a) ⌝ }
@@ -93,9 +93,10 @@ fn last_start(s: &[u8], t: usize) -> usize
     t + 2
 }
 
-// Past the blocks behind the two bytes at `at` in which each byte stands well: where the last sequence starts.
+// Past the blocks behind the two bytes at `at` in which each byte stands well, the last of which ends with the text: where the last sequence
+// starts.
 fn blocks_end(s: &[u8], at: usize) -> usize
-    requires { ⌜ at + 2 ≤ length (now s) ⌝ }
+    requires { ⌜ at + 34 ≤ length (now s) ⌝ }
     ensures { λ r. ⌜ ((i : ℕ) → PlaceAt (now (s .entry)) i at → Judged (now (s .entry)) i r) ⌝ }
 {
     let mut t = at;
@@ -105,21 +106,30 @@ fn blocks_end(s: &[u8], at: usize) -> usize
         }
         t += BLOCK;
     }
-    if s.len() < BLOCK + 2 || any_odd(s, s.len() - BLOCK - 2) {
+    if any_odd(s, s.len() - BLOCK - 2) {
         return last_start(s, t);
     }
     last_start(s, s.len() - 2)
 }
 
-// Past what stands well from `i` on, by blocks: the text is judged from there as from `i`.
+// Past what stands well from `i` on, by blocks, if there is one: the text is judged from there as from `i`.
 pub fn characters_end(s: &[u8], i: usize) -> usize
     ensures { λ r. ⌜ Judged (now (s .entry)) i r ⌝ }
 {
-    if i < 2 || s.len() < i {
+    if i < 2 {
+        return i;
+    }
+    if s.len() < BLOCK {
+        return i;
+    }
+    if s.len() - BLOCK < i {
         return i;
     }
     let t = i - 2;
-    if 0xC0 <= s[t + 1] || 0xE0 <= s[t] {
+    if 0xC0 <= s[t + 1] {
+        return i;
+    }
+    if 0xE0 <= s[t] {
         return i;
     }
     blocks_end(s, t)

@@ -1,10 +1,12 @@
 // UTF-8 by RFC 3629: ASCII first, then blocks of characters, both by vector instructions, and between them one sequence after the other.
 use super::ascii::any_high_before;
+use super::ascii::least;
+use super::block::BLOCK;
 use super::block::characters_end;
 use scan::part::byte_at;
 ghost use mathlib.Core.Path.{_≡_};
 ghost use mathlib.Core.Bool.{true};
-ghost use Prim.Native.Nat.{_<_};
+ghost use Prim.Native.Nat.{_≤_, _<_};
 ghost use Rattle.scan.specs.Bytes.{within as withinOf};
 ghost use lib.ListN.{length};
 ghost use Rattle.scan.specs.Scan.{byteAt};
@@ -122,14 +124,14 @@ fn sequence(s: &[u8], i: usize) -> SequenceRead
     any_sequence(s, i)
 }
 
-// Sequences one after the other from `at` on, until they are of `n` bytes or more, or the text ends.
-fn sequences(s: &[u8], at: usize, n: usize) -> SequenceRead
-    requires { ⌜ at < length (now s) ⌝ }
-    requires { ⌜ 0 < n ⌝ }
+// Sequences one after the other from `at` on, until one ends at `stop` or behind it.
+fn sequences(s: &[u8], at: usize, stop: usize) -> SequenceRead
+    requires { ⌜ at < stop ⌝ }
+    requires { ⌜ stop ≤ length (now s) ⌝ }
     ensures { λ r. ⌜ Sequence (now (s .entry)) at r ⌝ }
 {
     let mut i = at;
-    while i < s.len() && i - at < n {
+    while i < stop {
         let SequenceRead::Next(j) = sequence(s, i) else {
             return SequenceRead::Bad;
         };
@@ -138,21 +140,33 @@ fn sequences(s: &[u8], at: usize, n: usize) -> SequenceRead
     SequenceRead::Next(i)
 }
 
-// The bytes are UTF-8 by RFC 3629. A block needs two bytes before it; where one is not told, sequences follow over as many bytes.
+// Whether a text is UTF-8: `first` bytes by sequences, then by blocks, and behind a block that is not told as many bytes by sequences again.
+fn by_blocks(s: &[u8], first: usize) -> bool
+    requires { ⌜ 0 < first ⌝ }
+    ensures { λ r. ⌜ r ≡ utf8s.isUtf8 (now (s .entry)) ⌝ }
+{
+    let mut i: usize = 0;
+    let mut n = first;
+    while i < s.len() {
+        let SequenceRead::Next(j) = sequences(s, i, i + least(n, s.len() - i)) else {
+            return false;
+        };
+        i = characters_end(s, j);
+        n = BLOCK;
+    }
+    true
+}
+
+// The bytes are UTF-8 by RFC 3629. Two bytes must stand before a block, so a short text has none. What is not ASCII is read by a function of
+// its own, called at two places and lent the text anew: put in here, or lent the text as it came, it made ASCII slower.
 pub fn is_utf8(s: &[u8]) -> bool
     ensures { λ r. ⌜ r ≡ utf8s.isUtf8 (now (s .entry)) ⌝ }
 {
     if !any_high_before(s, s.len()) {
         return true;
     }
-    let mut i: usize = 0;
-    let mut n: usize = 2;
-    while i < s.len() {
-        let SequenceRead::Next(j) = sequences(s, i, n) else {
-            return false;
-        };
-        i = characters_end(s, j);
-        n = 32;
+    if s.len() < BLOCK + 2 {
+        return by_blocks(&s[0..], BLOCK + 2);
     }
-    true
+    by_blocks(&s[0..], 2)
 }

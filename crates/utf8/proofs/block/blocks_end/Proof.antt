@@ -15,7 +15,7 @@ abbrev μ-loop : tie.MeasureT-loop
 μ-loop s at t₀ t = length s - t
 
 loop-holds : tie.Need-loop-holds Inv-loop μ-loop
-loop-holds c = (c .before .pre, λ i p. p)
+loop-holds c = (omega (arith, c .before .pre), λ i p. p)
 
 add-loop : tie.Need-add-loop Inv-loop μ-loop
 add-loop c = search needs
@@ -44,9 +44,6 @@ loop-again c =
     let a = l .before .before .args in
     (omega (arith, l .loop .inv .0), λ i p. place-run (a .s .now) i (l .loop .t) 32 (omega (arith, l .loop .inv .0)) (c .before .any-odd .ensures (c .if1 .left)) (l .loop .inv .1 i p))
 
-add-if2 : tie.Need-add-if2 Inv-loop μ-loop
-add-if2 c = search needs
-
 sub-any-odd : tie.Need-sub-any-odd Inv-loop μ-loop
 sub-any-odd c = search needs
 
@@ -60,7 +57,7 @@ last-start-requires-2 : tie.Need-last-start-requires-2 Inv-loop μ-loop
 last-start-requires-2 c κs = search needs
 
 returns-2 : tie.Need-returns-2 Inv-loop μ-loop
-returns-2 c = λ i p. c .last-start2 .ensures i (c .before .before .before .loop .inv .1 i p)
+returns-2 c = λ i p. c .last-start2 .ensures i (c .before .before .before .before .loop .inv .1 i p)
 
 sub-last-start : tie.Need-sub-last-start Inv-loop μ-loop
 sub-last-start c = search needs
@@ -70,13 +67,13 @@ last-start-requires-3 c κs = search needs
 
 returns-3 : tie.Need-returns-3 Inv-loop μ-loop
 returns-3 c =
-    let l = c .before .before .before .before .before in
+    let l = c .before .before .before .before in
     let a = l .before .before .args in
     let n = length (a .s .now) in
     λ i p.
     c .last-start3 .ensures i
-    (place-to (a .s .now) i (l .loop .t) (n - 32 - 2) 32 (n - 2) (omega (arith, l .loop .inv .0)) (omega (arith, l .loop .inv .0)) (omega (arith, l .loop .inv .0)) (omega (arith, l .loop .inv .0))
-    (c .before .before .any-odd2 .ensures (c .before .if3 .left))
+    (place-to (a .s .now) i (l .loop .t) (n - 32 - 2) 32 (n - 2) (omega (arith, l .loop .inv .0)) (omega (arith, l .loop .inv .0)) (omega (arith, l .loop .inv .0)) (omega (arith, l .before .before .pre))
+    (c .before .before .any-odd2 .ensures (c .before .if2 .left))
     (l .loop .inv .1 i p))
 
 pub blocks-end-spec : {M : Type 1} → statement M
@@ -94,7 +91,6 @@ blocks-end-spec =
     add-t
     loop-less
     loop-again
-    add-if2
     sub-any-odd
     sub-any-odd-2
     any-odd-requires-2

@@ -1,72 +1,78 @@
--- `utf8::is_utf8` meets its contract. The invariant: the text is judged from i as from its start.
+-- `utf8::is_utf8` meets its contract.
 -- Assumes nothing.
-use mathlib.Core.Path.{_≡_, _∙_, refl, sym}
-use Prim.Native.Nat.{_-_, _<_}
+use mathlib.Core.Path.{_∙_, sym, ap}
+use Prim.Native.Nat.{_-_}
 use native.Mathlib.Omega.{arith}
-use lib.ListN.{length}
-use Rattle.utf8.specs.Utf8.{isUtf8, utf8At, whole}
-use Rattle.utf8.specs.Utf8Laws.{utf8-end, ascii-all}
 use borrow.Author.Tests.{not-true}
+use lib.ListN.{length}
+use lib.Seq.{take-all}
+use Rattle.utf8.specs.Utf8.{isUtf8}
+use Rattle.utf8.specs.Utf8Laws.{ascii-all}
 use borrow.Author.Needs.{needs}
 use Rattle.utf8.proofs.utf8.is_utf8.Statement.{statement}
 use Rattle.utf8.proofs.utf8.is_utf8.Tie as tie
 
-abbrev Inv-loop : tie.InvT-loop
-Inv-loop s i₀ n₀ i n = (isUtf8 s ≡ utf8At whole s i) × (0 < n)
-
-abbrev μ-loop : tie.MeasureT-loop
-μ-loop s i₀ n₀ i n = length s - i
-
-any-high-before-requires : tie.Need-any-high-before-requires Inv-loop μ-loop
+any-high-before-requires : tie.Need-any-high-before-requires
 any-high-before-requires c κs = search needs
 
-returns : tie.Need-returns Inv-loop μ-loop
+returns : tie.Need-returns
 returns c = sym (ascii-all _ (c .before .any-high-before .ensures (not-true _ (c .if1 .taken))))
 
-loop-holds : tie.Need-loop-holds Inv-loop μ-loop
-unfolding isUtf8
-loop-holds c = (refl, omega arith)
+add-if2 : tie.Need-add-if2
+add-if2 c = search needs
 
-sequences-requires : tie.Need-sequences-requires Inv-loop μ-loop
-sequences-requires c κs = search needs
+sub-by-blocks : tie.Need-sub-by-blocks
+sub-by-blocks c = search needs
 
-enum-known-j : tie.Need-enum-known-j Inv-loop μ-loop
-enum-known-j c = search needs
+part-by-blocks-start : tie.Need-part-by-blocks-start
+part-by-blocks-start c = search needs
 
-enum-told : tie.Need-enum-told Inv-loop μ-loop
-enum-told c = search needs
+part-by-blocks-end : tie.Need-part-by-blocks-end
+part-by-blocks-end c = search needs
 
-returns-2 : tie.Need-returns-2 Inv-loop μ-loop
-returns-2 c = sym (c .before .before .before .before .loop .inv .0 ∙ rw (c .enum-told .given .1) at (c .before .before .sequences .ensures))
+add-by-blocks : tie.Need-add-by-blocks
+add-by-blocks c = search needs
 
-characters-end-requires : tie.Need-characters-end-requires Inv-loop μ-loop
-characters-end-requires c κs = search needs
+by-blocks-requires : tie.Need-by-blocks-requires
+by-blocks-requires c κs = search needs
 
-loop-less : tie.Need-loop-less Inv-loop μ-loop
-loop-less c = let e = rw (c .before .before .j .given .1) at (c .before .before .before .before .sequences .ensures) in omega (arith, e .1, c .characters-end .ensures .1)
+returns-2 : tie.Need-returns-2
+returns-2 c =
+    let s = c .before .before .before .before .before .before .args .s .now in
+    c .by-blocks .ensures ∙ ap isUtf8 (take-all (length s - 0) s (omega arith))
 
-loop-again : tie.Need-loop-again Inv-loop μ-loop
-loop-again c =
-    let e = rw (c .before .before .j .given .1) at (c .before .before .before .before .sequences .ensures) in
-    (c .before .before .before .before .before .before .loop .inv .0 ∙ e .0 ∙ c .characters-end .ensures .0, omega arith)
+sub-by-blocks-2 : tie.Need-sub-by-blocks-2
+sub-by-blocks-2 c = search needs
 
-returns-3 : tie.Need-returns-3 Inv-loop μ-loop
-returns-3 c = sym (c .before .loop .inv .0 ∙ utf8-end _ _ _ (search needs))
+part-by-blocks-start-2 : tie.Need-part-by-blocks-start-2
+part-by-blocks-start-2 c = search needs
+
+part-by-blocks-end-2 : tie.Need-part-by-blocks-end-2
+part-by-blocks-end-2 c = search needs
+
+by-blocks-requires-2 : tie.Need-by-blocks-requires-2
+by-blocks-requires-2 c κs = search needs
+
+returns-3 : tie.Need-returns-3
+returns-3 c =
+    let s = c .before .before .before .before .before .before .args .s .now in
+    c .by-blocks2 .ensures ∙ ap isUtf8 (take-all (length s - 0) s (omega arith))
 
 pub is-utf8-spec : {M : Type 1} → statement M
 is-utf8-spec =
     tie.close
     (tie.spec
-    Inv-loop
-    μ-loop
     any-high-before-requires
     returns
-    loop-holds
-    sequences-requires
-    enum-known-j
-    enum-told
+    add-if2
+    sub-by-blocks
+    part-by-blocks-start
+    part-by-blocks-end
+    add-by-blocks
+    by-blocks-requires
     returns-2
-    characters-end-requires
-    loop-less
-    loop-again
+    sub-by-blocks-2
+    part-by-blocks-start-2
+    part-by-blocks-end-2
+    by-blocks-requires-2
     returns-3)
