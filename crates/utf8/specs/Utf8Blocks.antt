@@ -1,4 +1,4 @@
--- Blocks of UTF-8: of which byte after which two a text is told to be good, without a state; and that it is.
+-- Blocks of UTF-8: what is told of a byte by the two before it, without a state; and that a text is judged behind such bytes as before them.
 -- Assumes nothing.
 use mathlib.Core.Path.{_≡_, refl, _∙_, sym, ap, subst}
 use mathlib.Core.Bool.{Bool, true, false, cond, false≢true}
@@ -55,7 +55,7 @@ PlaceAt s i t = Place s i (byteAt s t) (byteAt s (t + 1)) t
 
 -- tests of bytes ------------------------------------------------------------------------------------------------------------
 
--- a byte whose second bit is turned, and which is then at most 0xEE
+-- a byte that is at most 0xEE with its bit of weight 2 turned over
 pub usual-by : (a : ℕ) → bitXor a 2 ≤ 0xEE → Usual a
 usual-by a h =
     record {

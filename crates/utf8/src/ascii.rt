@@ -8,6 +8,13 @@ ghost use Rattle.scan.specs.Scan.{runAt};
 ghost use Rattle.utf8.specs.Ascii.{Pieces};
 ghost use Rattle.utf8.specs.Utf8.{isAscii};
 
+// The smaller of two numbers.
+pub fn least(a: usize, b: usize) -> usize
+    ensures { λ r. ⌜ r ≡ a - (a - b) ⌝ }
+{
+    if a < b { a } else { b }
+}
+
 // False only where no byte above 0x7F stands among the `n` bytes from `from` on.
 fn any_high(s: &[u8], from: usize, n: usize) -> bool
     requires { ⌜ from + n ≤ length (now s) ⌝ }
@@ -22,13 +29,6 @@ fn any_high(s: &[u8], from: usize, n: usize) -> bool
     m
 }
 
-// The smaller of two numbers.
-pub fn least(a: usize, b: usize) -> usize
-    ensures { λ r. ⌜ r ≡ a - (a - b) ⌝ }
-{
-    if a < b { a } else { b }
-}
-
 // The same before `end`, by two pieces of `n` bytes that may overlap.
 fn any_high_of_two(s: &[u8], n: usize, end: usize) -> bool
     requires { ⌜ Pieces 2 n end (length (now s)) ⌝ }
@@ -37,7 +37,7 @@ fn any_high_of_two(s: &[u8], n: usize, end: usize) -> bool
     either(any_high(s, 0, n), any_high(s, end - n, n))
 }
 
-// The same by four: no branch for lengths from `n` to four times `n`.
+// The same by four pieces: one way for all lengths from `n` to four times `n`, where each size by itself would be a branch.
 fn any_high_of_four(s: &[u8], n: usize, end: usize) -> bool
     requires { ⌜ Pieces 4 n end (length (now s)) ⌝ }
     ensures { λ r. ⌜ (r ≡ false → runAt isAscii (now (s .entry)) 0 ≡ runAt isAscii (now (s .entry)) end) ⌝ }

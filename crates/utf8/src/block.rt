@@ -1,7 +1,8 @@
 // Blocks of UTF-8: characters of up to three bytes, many bytes tested at once.
 //
-// A byte and the two before it tell whether it stands well there. What is taken at once leaves out the first bytes 0xC0, 0xC1, 0xDF, 0xE0,
-// 0xED and those from 0xF0 on: a block with one of them is read one sequence after the other.
+// A byte and the two before it tell whether it stands well there, without a state. The test is put in numbers, by differences that stop at 0,
+// the larger and the smaller of two: vector instructions have these for bytes, and comparisons would be more. A block with one of the first
+// bytes 0xC0, 0xC1, 0xDF, 0xE0, 0xED, or 0xF0 and above, is not told, and is read one sequence after the other.
 use super::utf8::within;
 use blocks::test::either;
 ghost use mathlib.Core.Path.{_≡_};
@@ -47,7 +48,7 @@ fn must(c: u8, b: u8) -> u8
     smaller(above(larger(b, above(c, 0x1F)), 0xBF), 3)
 }
 
-// 0 only for a byte that is not 0xED and is below 0xF0: with its second bit turned, 0xED is the last of those before 0xF0.
+// 0 only for a byte below 0xF0 that is not 0xED: with the bit of weight 2 turned over, 0xED is 0xEF, the greatest of them.
 fn unusual(a: u8) -> u8
     ensures { λ r. ⌜ (r ≡ 0 → Usual a) ⌝ }
 {
