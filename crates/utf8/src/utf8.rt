@@ -1,5 +1,8 @@
-// UTF-8 by RFC 3629: ASCII first, by vector instructions, then one sequence after the other.
+// UTF-8 by RFC 3629: ASCII first, then blocks of characters, both by vector instructions, and between them one sequence after the other.
 use super::ascii::any_high_before;
+use super::ascii::least;
+use super::block::BLOCK;
+use super::block::characters_end;
 use scan::part::byte_at;
 ghost use mathlib.Core.Path.{_≡_};
 ghost use mathlib.Core.Bool.{true};
@@ -10,7 +13,8 @@ ghost use Rattle.scan.specs.Scan.{byteAt};
 ghost use Rattle.utf8.specs.Utf8 as utf8s;
 ghost use Rattle.utf8.specs.Utf8Laws.{Sequence};
 
-fn within(lo: u8, hi: u8, b: u8) -> bool
+// Whether a byte is from `lo` to `hi`.
+pub fn within(lo: u8, hi: u8, b: u8) -> bool
     ensures { λ r. ⌜ r ≡ withinOf lo hi b ⌝ }
 {
     lo <= b && b <= hi
@@ -102,12 +106,16 @@ fn any_sequence(s: &[u8], i: usize) -> SequenceRead
     SequenceRead::Next(i + 4)
 }
 
-// The same, with the commonest, of two bytes, first.
+// The same, with the commonest first: those of one byte and of two.
 fn sequence(s: &[u8], i: usize) -> SequenceRead
     requires { ⌜ i < length (now s) ⌝ }
     ensures { λ r. ⌜ Sequence (now (s .entry)) i r ⌝ }
 {
-    if within(0xC2, 0xDF, s[i]) {
+    let b = s[i];
+    if b < 0x80 {
+        return SequenceRead::Next(i + 1);
+    }
+    if within(0xC2, 0xDF, b) {
         if follows(s, i + 1, 0x80, 0xBF) {
             return SequenceRead::Next(i + 2);
         }
@@ -116,34 +124,49 @@ fn sequence(s: &[u8], i: usize) -> SequenceRead
     any_sequence(s, i)
 }
 
-// The first byte from `at` on that is not ASCII, or the end: the text is judged from there as from `at`.
-fn ascii_end(s: &[u8], at: usize) -> usize
-    ensures same { λ r. ⌜ utf8s.utf8At utf8s.whole (now (s .entry)) at ≡ utf8s.utf8At utf8s.whole (now (s .entry)) r ⌝ }
-    ensures later { λ r. ⌜ at ≤ r ⌝ }
+// Sequences one after the other from `at` on, until one ends at `stop` or behind it.
+fn sequences(s: &[u8], at: usize, stop: usize) -> SequenceRead
+    requires { ⌜ at < stop ⌝ }
+    requires { ⌜ stop ≤ length (now s) ⌝ }
+    ensures { λ r. ⌜ Sequence (now (s .entry)) at r ⌝ }
 {
     let mut i = at;
-    while i < s.len() {
-        if 0x80 <= s[i] {
-            return i;
-        }
-        i += 1;
+    while i < stop {
+        let SequenceRead::Next(j) = sequence(s, i) else {
+            return SequenceRead::Bad;
+        };
+        i = j;
     }
-    i
+    SequenceRead::Next(i)
 }
 
-// The bytes are UTF-8 by RFC 3629.
+// Whether a text is UTF-8: `first` bytes by sequences, then by blocks, and behind a block that is not told as many bytes by sequences again.
+fn by_blocks(s: &[u8], first: usize) -> bool
+    requires { ⌜ 0 < first ⌝ }
+    ensures { λ r. ⌜ r ≡ utf8s.isUtf8 (now (s .entry)) ⌝ }
+{
+    let mut i: usize = 0;
+    let mut n = first;
+    while i < s.len() {
+        let SequenceRead::Next(j) = sequences(s, i, i + least(n, s.len() - i)) else {
+            return false;
+        };
+        i = characters_end(s, j);
+        n = BLOCK;
+    }
+    true
+}
+
+// The bytes are UTF-8 by RFC 3629. Two bytes must stand before a block, so a short text has none. What is not ASCII is read by a function of
+// its own, called at two places and lent the text anew: put in here, or lent the text as it came, it made ASCII slower.
 pub fn is_utf8(s: &[u8]) -> bool
     ensures { λ r. ⌜ r ≡ utf8s.isUtf8 (now (s .entry)) ⌝ }
 {
     if !any_high_before(s, s.len()) {
         return true;
     }
-    let mut i = ascii_end(s, 0);
-    while i < s.len() {
-        let SequenceRead::Next(j) = sequence(s, i) else {
-            return false;
-        };
-        i = ascii_end(s, j);
+    if s.len() < BLOCK + 2 {
+        return by_blocks(&s[0..], BLOCK + 2);
     }
-    true
+    by_blocks(&s[0..], 2)
 }

@@ -1,74 +1,78 @@
--- `utf8::is_utf8` meets its contract. The invariant: the text is judged from i as from its start.
+-- `utf8::is_utf8` meets its contract.
 -- Assumes nothing.
-use mathlib.Core.Path.{_≡_, _∙_, sym}
+use mathlib.Core.Path.{_∙_, sym, ap}
 use Prim.Native.Nat.{_-_}
 use native.Mathlib.Omega.{arith}
-use lib.ListN.{length}
-use Rattle.utf8.specs.Utf8.{isUtf8, utf8At, whole}
-use Rattle.utf8.specs.Utf8Laws.{utf8-end, ascii-all}
 use borrow.Author.Tests.{not-true}
+use lib.ListN.{length}
+use lib.Seq.{take-all}
+use Rattle.utf8.specs.Utf8.{isUtf8}
+use Rattle.utf8.specs.Utf8Laws.{ascii-all}
 use borrow.Author.Needs.{needs}
 use Rattle.utf8.proofs.utf8.is_utf8.Statement.{statement}
 use Rattle.utf8.proofs.utf8.is_utf8.Tie as tie
 
-abbrev Inv-loop : tie.InvT-loop
-Inv-loop s i₀ i = isUtf8 s ≡ utf8At whole s i
-
-abbrev μ-loop : tie.MeasureT-loop
-μ-loop s i₀ i = length s - i
-
-any-high-before-requires : tie.Need-any-high-before-requires Inv-loop μ-loop
+any-high-before-requires : tie.Need-any-high-before-requires
 any-high-before-requires c κs = search needs
 
-returns : tie.Need-returns Inv-loop μ-loop
+returns : tie.Need-returns
 returns c = sym (ascii-all _ (c .before .any-high-before .ensures (not-true _ (c .if1 .taken))))
 
-ascii-end-requires : tie.Need-ascii-end-requires Inv-loop μ-loop
-ascii-end-requires c κs = search needs
+add-if2 : tie.Need-add-if2
+add-if2 c = search needs
 
-loop-holds : tie.Need-loop-holds Inv-loop μ-loop
-unfolding isUtf8
-loop-holds c = c .ascii-end .ensures .0
+sub-by-blocks : tie.Need-sub-by-blocks
+sub-by-blocks c = search needs
 
-sequence-requires : tie.Need-sequence-requires Inv-loop μ-loop
-sequence-requires c κs = search needs
+part-by-blocks-start : tie.Need-part-by-blocks-start
+part-by-blocks-start c = search needs
 
-enum-known-j : tie.Need-enum-known-j Inv-loop μ-loop
-enum-known-j c = search needs
+part-by-blocks-end : tie.Need-part-by-blocks-end
+part-by-blocks-end c = search needs
 
-enum-told : tie.Need-enum-told Inv-loop μ-loop
-enum-told c = search needs
+add-by-blocks : tie.Need-add-by-blocks
+add-by-blocks c = search needs
 
-returns-2 : tie.Need-returns-2 Inv-loop μ-loop
-returns-2 c = sym (c .before .before .before .before .loop .inv ∙ rw (c .enum-told .given .1) at (c .before .before .sequence .ensures))
+by-blocks-requires : tie.Need-by-blocks-requires
+by-blocks-requires c κs = search needs
 
-ascii-end-requires-2 : tie.Need-ascii-end-requires-2 Inv-loop μ-loop
-ascii-end-requires-2 c κs = search needs
+returns-2 : tie.Need-returns-2
+returns-2 c =
+    let s = c .before .before .before .before .before .before .args .s .now in
+    c .by-blocks .ensures ∙ ap isUtf8 (take-all (length s - 0) s (omega arith))
 
-loop-less : tie.Need-loop-less Inv-loop μ-loop
-loop-less c = let e = rw (c .before .before .j .given .1) at (c .before .before .before .before .sequence .ensures) in omega (arith, e .1, c .ascii-end2 .ensures .1)
+sub-by-blocks-2 : tie.Need-sub-by-blocks-2
+sub-by-blocks-2 c = search needs
 
-loop-again : tie.Need-loop-again Inv-loop μ-loop
-loop-again c = let e = rw (c .before .before .j .given .1) at (c .before .before .before .before .sequence .ensures) in c .before .before .before .before .before .before .loop .inv ∙ e .0 ∙ c .ascii-end2 .ensures .0
+part-by-blocks-start-2 : tie.Need-part-by-blocks-start-2
+part-by-blocks-start-2 c = search needs
 
-returns-3 : tie.Need-returns-3 Inv-loop μ-loop
-returns-3 c = sym (c .before .loop .inv ∙ utf8-end _ _ _ (search needs))
+part-by-blocks-end-2 : tie.Need-part-by-blocks-end-2
+part-by-blocks-end-2 c = search needs
+
+by-blocks-requires-2 : tie.Need-by-blocks-requires-2
+by-blocks-requires-2 c κs = search needs
+
+returns-3 : tie.Need-returns-3
+returns-3 c =
+    let s = c .before .before .before .before .before .before .args .s .now in
+    c .by-blocks2 .ensures ∙ ap isUtf8 (take-all (length s - 0) s (omega arith))
 
 pub is-utf8-spec : {M : Type 1} → statement M
 is-utf8-spec =
     tie.close
     (tie.spec
-    Inv-loop
-    μ-loop
     any-high-before-requires
     returns
-    ascii-end-requires
-    loop-holds
-    sequence-requires
-    enum-known-j
-    enum-told
+    add-if2
+    sub-by-blocks
+    part-by-blocks-start
+    part-by-blocks-end
+    add-by-blocks
+    by-blocks-requires
     returns-2
-    ascii-end-requires-2
-    loop-less
-    loop-again
+    sub-by-blocks-2
+    part-by-blocks-start-2
+    part-by-blocks-end-2
+    by-blocks-requires-2
     returns-3)
