@@ -117,7 +117,7 @@ fn passed(p: Picked, x: Item) -> Picked
                 Picked::Ahead(n - 1)
             }
         }
-        Picked::Item(_) => p,
+        Picked::Item(y) => Picked::Item(y),
     }
 }
 

@@ -1,5 +1,7 @@
 // The text of an item, quoted or plain.
 // Beside parse_quote and parse_text of parse.rs: runs of bytes that stand for themselves, and escapes between them.
+use blocks::run::RunStart;
+use blocks::run::first_two;
 use blocks::run::long_run_end;
 use scan::classes::Kind;
 use scan::part::byte_at;
@@ -87,15 +89,21 @@ pub fn escape_of(quoted: bool, b: u8) -> Escape
     }
 }
 
-// Past the bytes from `at` on that stand for themselves.
+// Past the bytes from `at` on that stand for themselves: none, or one, is told at once.
 fn own_end(s: &[u8], at: usize, quoted: bool, classes: &[u8; 256]) -> usize
     requires { ⌜ Classes (now classes) ⌝ }
     ensures { λ r. ⌜ r ≡ runAt (own quoted) (now (s .entry)) at ⌝ }
 {
     if quoted {
-        long_run_end(s, at, classes, Kind::Quoted)
+        match first_two(s, at, classes, Kind::Quoted) {
+            RunStart::Ends(i) => i,
+            RunStart::GoesOn(i) => long_run_end(s, i, classes, Kind::Quoted),
+        }
     } else {
-        long_run_end(s, at, classes, Kind::Plain)
+        match first_two(s, at, classes, Kind::Plain) {
+            RunStart::Ends(i) => i,
+            RunStart::GoesOn(i) => long_run_end(s, i, classes, Kind::Plain),
+        }
     }
 }
 
