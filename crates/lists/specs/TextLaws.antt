@@ -2,7 +2,7 @@
 -- Assumes nothing.
 use mathlib.Core.Path.{_≡_, refl, _∙_, sym, ap}
 use mathlib.Core.Bool.{Bool, true, false, cond}
-use mathlib.Core.List.{List, [], _∷_, _++_, append-assoc}
+use mathlib.Core.List.{List, [], _∷_, _++_, append-assoc, append-nil}
 use Prim.Native.Nat.{ℕ, suc, _+_, _-_, _<_, _≤_}
 use native.Mathlib.Omega.{arith}
 use native.Mathlib.Decide.{decLt}
@@ -110,6 +110,10 @@ module _ (q : Bool) (s : List ℕ) where
       go : Dec (j < length s) → bytesAt q s j ≡ []
       go (yes k) = rw (drop-step s j k, h k, ne-eqb _ _ n, bytesFrom)
       go (no k) = let z : length s ≤ j = omega arith in rw (drop-of-length-le s z)
+
+  -- without a backslash behind it, a run is the whole text
+  pub bytes-whole : (i : ℕ) → (byteAt s (runAt (own q) s i) ≡ 0x5C → ⊥) → bytesAt q s i ≡ partOf s i (runAt (own q) s i)
+  bytes-whole i n = bytes-run i ∙ rw (bytes-stop (runAt (own q) s i) (run-stands i) n) (append-nil (partOf s i (runAt (own q) s i)))
 
   -- escapes -----------------------------------------------------------------------------------------------------------------------
 

@@ -7,6 +7,7 @@ use scan::classes::Kind;
 use scan::part::byte_at;
 use scan::part::part;
 use store::put_bytes;
+use store::put_number;
 ghost use mathlib.Core.Path.{_≡_};
 ghost use mathlib.Core.Bool.{cond};
 ghost use Prim.Native.Nat.{_+_};
@@ -14,6 +15,7 @@ ghost use lib.Dec.{eqb};
 ghost use lib.ListN.{length};
 ghost use Rattle.scan.specs.Bytes.{Classes};
 ghost use Rattle.scan.specs.Scan.{byteAt, runAt};
+ghost use Rattle.store.specs.Sevens.{named};
 ghost use Rattle.store.specs.Splice.{Put, Room};
 ghost use Rattle.lists.specs.Lists.{textAt};
 ghost use Rattle.lists.specs.Text.{quotedEscape, plainEscape, escapeOf, own, stopAt as stopOf, textEndAt, bytesAt};
@@ -187,4 +189,27 @@ pub fn copy_text(
         n = m + 1;
         i = j + 2;
     }
+}
+
+// Writes the text at `at` as a name: how many bytes it stands for, and these. One without an escape is copied as it stands.
+pub fn put_text(
+    s: &[u8],
+    at: usize,
+    quoted: bool,
+    classes: &[u8; 256],
+    store: &mut [u8],
+    to: usize,
+) -> usize
+    requires { ⌜ Classes (now classes) ⌝ }
+    requires { ⌜ Room (now store) to (named (bytesAt quoted (now s) at)) ⌝ }
+    ensures { λ r. ⌜ Put (now (store .entry)) (now (store .exit)) to r (named (bytesAt quoted (now (s .entry)) at)) ⌝ }
+{
+    let j = own_end(s, at, quoted, classes);
+    if byte_at(s, j) != 0x5C {
+        let i = put_number(store, to, (j - at) as u64);
+        return put_bytes(store, i, part(s, at, j));
+    }
+    let n = text_size(s, at, quoted, classes);
+    let i = put_number(store, to, n as u64);
+    copy_text(s, at, quoted, classes, store, i)
 }
