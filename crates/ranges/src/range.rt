@@ -14,6 +14,9 @@ ghost use Rattle.scan.specs.Bytes.{Classes};
 ghost use Rattle.ranges.specs.Offset.{offsetAt};
 ghost use Rattle.ranges.specs.Range.{escapedAtom, markAtom, signAtom, atomAt, isSign, offsetsAt, withOffsets, endingAt, double as doubleOf, rangeAt, wholeOf, wholeRange};
 
+// How long a text is where offsets may be many.
+const MANY: usize = 64;
+
 pub enum MoveDir1D {
     Next,
     Previous,
@@ -113,12 +116,36 @@ pub fn offset_at(s: &[u8], at: usize) -> Offset
     }
 }
 
+// Past offsets of one digit, each with a sign behind it: in a long text, where there may be many.
+fn past_pairs(s: &[u8], at: usize) -> usize
+    ensures { λ r. ⌜ offsetsAt (now (s .entry)) at ≡ offsetsAt (now (s .entry)) r ⌝ }
+{
+    if s.len() < MANY {
+        return at;
+    }
+    if !is_sign(byte_at(s, at)) {
+        return at;
+    }
+    let last = s.len() - 2;
+    let mut i = at;
+    while i < last {
+        if !is_digit(s[i + 1]) {
+            return i;
+        }
+        if !is_sign(s[i + 2]) {
+            return i;
+        }
+        i += 2;
+    }
+    i
+}
+
 // The position past the offsets that start at `at`.
 fn parse_range_modifiers(s: &[u8], at: usize) -> OffsetsRead
     ensures { λ r. ⌜ r ≡ offsetsAt (now (s .entry)) at ⌝ }
 {
-    let mut i = at;
-    let mut b = byte_at(s, at);
+    let mut i = past_pairs(s, at);
+    let mut b = byte_at(s, i);
     loop {
         if !is_sign(b) {
             return OffsetsRead::End(i);

@@ -1,6 +1,6 @@
 -- `sum::sum_mods` meets its contract. The invariant: b stands at i, and the sum so far and the offsets from i on are the sum of all.
 -- Assumes nothing.
-use mathlib.Core.Path.{_≡_, refl, _∙_, sym, ap}
+use mathlib.Core.Path.{_≡_, _∙_, sym, ap}
 use mathlib.Core.Bool.{true}
 use Prim.Native.Nat.{ℕ, _-_, _+_}
 use native.Mathlib.Omega.{arith}
@@ -23,11 +23,15 @@ Inv-loop s at classes i₀ d₀ n₀ b₀ i d n b = (b ≡ getD s i 0) × (sumAt
 abbrev μ-loop : tie.MeasureT-loop
 μ-loop s at classes i₀ d₀ n₀ b₀ i d n b = length s - i
 
+sum-pairs-requires : tie.Need-sum-pairs-requires Inv-loop μ-loop
+sum-pairs-requires c κs = search needs
+
 byte-at-requires : tie.Need-byte-at-requires Inv-loop μ-loop
 byte-at-requires c κs = search needs
 
 loop-holds : tie.Need-loop-holds Inv-loop μ-loop
-loop-holds c = (c .byte-at .ensures, refl)
+unfolding sumOf
+loop-holds c = (c .byte-at .ensures, c .before .sum-pairs .ensures)
 
 is-sign-requires : tie.Need-is-sign-requires Inv-loop μ-loop
 is-sign-requires c κs = search needs
@@ -39,11 +43,11 @@ returns c =
     sym (l .inv .1 ∙ sum-none _ _ _ (sym (ap isSign (l .inv .0)) ∙ sym (c .before .is-sign .ensures) ∙ not-true _ (c .if1 .taken)))
 
 -- a sign stands at i
-signed : (c : tie.Else1 Inv-loop μ-loop) → isSign (getD (c .before .before .before .before .before .args .s .now) (c .before .before .loop .i) 0) ≡ true
+signed : (c : tie.Else1 Inv-loop μ-loop) → isSign (getD (c .before .before .before .before .before .before .args .s .now) (c .before .before .loop .i) 0) ≡ true
 signed c = sym (ap isSign (c .before .before .loop .inv .0)) ∙ sym (c .before .is-sign .ensures) ∙ not-false _ (c .if1 .left)
 
 add-offset-at : tie.Need-add-offset-at Inv-loop μ-loop
-add-offset-at c = omega (arith, sign-inside (c .before .before .before .before .before .args .s .now) (c .before .before .loop .i) (signed c))
+add-offset-at c = omega (arith, sign-inside (c .before .before .before .before .before .before .args .s .now) (c .before .before .loop .i) (signed c))
 
 offset-at-requires : tie.Need-offset-at-requires Inv-loop μ-loop
 offset-at-requires c κs = search needs
@@ -57,7 +61,7 @@ enum-told c = search needs
 returns-2 : tie.Need-returns-2 Inv-loop μ-loop
 unfolding sumOf
 returns-2 c =
-    let s = c .before .before .before .before .before .before .before .before .args .s .now in
+    let s = c .before .before .before .before .before .before .before .before .before .args .s .now in
     let l = c .before .before .before .before .before .loop in
     let t = signed (c .before .before .before) in
     sym (l .inv .1 ∙ sum-large (Sum.Is (l .d) (l .n)) s (l .i) (sign-inside s (l .i) t) t (offset-large s (l .i + 1) (sym (c .before .before .offset-at .ensures) ∙ c .enum-told .given .1)))
@@ -67,7 +71,7 @@ add-is-requires c κs = search needs
 
 -- the offset at i is passed
 passed : (c : tie.After-known-told Inv-loop μ-loop) →
-    let s = c .before .before .before .before .before .before .before .before .before .args .s .now in
+    let s = c .before .before .before .before .before .before .before .before .before .before .args .s .now in
     let l = c .before .before .before .before .before .before .loop in
     let o = c .before .k .given .0 in
     Passed s (l .i) (o .0) (o .1 .0) (o .1 .1 .0) (sumAt (Sum.Is (l .d) (l .n)) s (l .i)) (λ m k. sumAt (addTo (Sum.Is (l .d) (l .n)) (eqb (getD s (l .i) 0) 0x2B) m) s k)
@@ -76,7 +80,7 @@ passed c =
 
 -- the sum of all, by the sum up to the offset and the offset
 added : (c : tie.After-known-told Inv-loop μ-loop) →
-    let a = c .before .before .before .before .before .before .before .before .before .args in
+    let a = c .before .before .before .before .before .before .before .before .before .before .args in
     let l = c .before .before .before .before .before .before .loop in
     let o = c .before .k .given .0 in
     sumAt (Sum.Is MoveDir1D.Next 0) (a .s .now) (a .at) ≡ sumAt (addIs (l .d) (l .n) (eqb (l .b) 0x2B) (o .0)) (a .s .now) (o .1 .0)
@@ -93,7 +97,7 @@ returns-3 : tie.Need-returns-3 Inv-loop μ-loop
 unfolding sumOf
 returns-3 c =
     let q = c .before .before .before in
-    let s = q .before .before .before .before .before .before .before .before .before .args .s .now in
+    let s = q .before .before .before .before .before .before .before .before .before .before .args .s .now in
     let j = q .before .k .given .0 .1 .0 in
     sym
     (added q
@@ -106,7 +110,7 @@ loop-less c = let p = passed (c .before .before .before .before) in omega (arith
 loop-again : tie.Need-loop-again Inv-loop μ-loop
 loop-again c =
     let q = c .before .before .before .before in
-    let s = q .before .before .before .before .before .before .before .before .before .args .s .now in
+    let s = q .before .before .before .before .before .before .before .before .before .before .args .s .now in
     let j = q .before .k .given .0 .1 .0 in
     (passed q .byte, added q ∙ ap (λ (a : Sum). sumAt a s j) (sym (c .before .before .before .add-is .ensures) ∙ c .before .e .given .1))
 
@@ -116,6 +120,7 @@ sum-mods-spec =
     (tie.spec
     Inv-loop
     μ-loop
+    sum-pairs-requires
     byte-at-requires
     loop-holds
     is-sign-requires

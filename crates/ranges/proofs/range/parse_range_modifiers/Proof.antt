@@ -1,6 +1,6 @@
 -- `range::parse_range_modifiers` meets its contract. The invariant: b stands at i, and the offsets from i on end where those from the start do.
 -- Assumes nothing.
-use mathlib.Core.Path.{_≡_, refl, _∙_, sym, ap}
+use mathlib.Core.Path.{_≡_, _∙_, sym, ap}
 use mathlib.Core.Bool.{true}
 use Prim.Native.Nat.{_-_, _+_}
 use native.Mathlib.Omega.{arith}
@@ -19,11 +19,14 @@ Inv-loop s at i₀ b₀ i b = (b ≡ getD s i 0) × (offsetsAt s at ≡ offsetsA
 abbrev μ-loop : tie.MeasureT-loop
 μ-loop s at i₀ b₀ i b = length s - i
 
+past-pairs-requires : tie.Need-past-pairs-requires Inv-loop μ-loop
+past-pairs-requires c κs = search needs
+
 byte-at-requires : tie.Need-byte-at-requires Inv-loop μ-loop
 byte-at-requires c κs = search needs
 
 loop-holds : tie.Need-loop-holds Inv-loop μ-loop
-loop-holds c = (c .byte-at .ensures, refl)
+loop-holds c = (c .byte-at .ensures, c .before .past-pairs .ensures)
 
 is-sign-requires : tie.Need-is-sign-requires Inv-loop μ-loop
 is-sign-requires c κs = search needs
@@ -34,11 +37,11 @@ returns c =
     sym (l .inv .1 ∙ offsetsAt-none _ _ (sym (ap isSign (l .inv .0)) ∙ sym (c .before .is-sign .ensures) ∙ not-true _ (c .if1 .taken)))
 
 -- a sign stands at i
-signed : (c : tie.Else1 Inv-loop μ-loop) → isSign (getD (c .before .before .before .before .before .args .s .now) (c .before .before .loop .i) 0) ≡ true
+signed : (c : tie.Else1 Inv-loop μ-loop) → isSign (getD (c .before .before .before .before .before .before .args .s .now) (c .before .before .loop .i) 0) ≡ true
 signed c = sym (ap isSign (c .before .before .loop .inv .0)) ∙ sym (c .before .is-sign .ensures) ∙ not-false _ (c .if1 .left)
 
 add-offset-at : tie.Need-add-offset-at Inv-loop μ-loop
-add-offset-at c = omega (arith, sign-inside (c .before .before .before .before .before .args .s .now) (c .before .before .loop .i) (signed c))
+add-offset-at c = omega (arith, sign-inside (c .before .before .before .before .before .before .args .s .now) (c .before .before .loop .i) (signed c))
 
 offset-at-requires : tie.Need-offset-at-requires Inv-loop μ-loop
 offset-at-requires c κs = search needs
@@ -51,14 +54,14 @@ enum-told c = search needs
 
 returns-2 : tie.Need-returns-2 Inv-loop μ-loop
 returns-2 c =
-    let s = c .before .before .before .before .before .before .before .before .args .s .now in
+    let s = c .before .before .before .before .before .before .before .before .before .args .s .now in
     let l = c .before .before .before .before .before .loop in
     let t = signed (c .before .before .before) in
     sym (l .inv .1 ∙ offsetsAt-large s (l .i) (sign-inside s (l .i) t) t (offset-large s (l .i + 1) (sym (c .before .before .offset-at .ensures) ∙ c .enum-told .given .1)))
 
 -- the offset at i is passed
 passed : (c : tie.After-known-told Inv-loop μ-loop) →
-    let s = c .before .before .before .before .before .before .before .before .before .args .s .now in
+    let s = c .before .before .before .before .before .before .before .before .before .before .args .s .now in
     let i = c .before .before .before .before .before .before .loop .i in
     let o = c .before .j .given .0 in
     Passed s i (o .0) (o .1 .0) (o .1 .1 .0) (offsetsAt s i) (λ m k. offsetsAt s k)
@@ -77,6 +80,7 @@ parse-range-modifiers-spec =
     (tie.spec
     Inv-loop
     μ-loop
+    past-pairs-requires
     byte-at-requires
     loop-holds
     is-sign-requires
