@@ -162,6 +162,21 @@ module _ (q : Bool) (s : List ℕ) where
         go (yes k) = rw (drop-step s (j + 1) k, e, bytesFrom)
         go (no k) = let z : length s ≤ j + 1 = omega arith in rw (drop-of-length-le s z)
 
+-- escapes one after the other: n of them stand from i up to j
+pub record Escaped (q : Bool) (s : List ℕ) (i j n : ℕ) : Type 0 where
+  pub later : i ≤ j
+  pub count : length (bytesAt q s i) ≡ n + length (bytesAt q s j)
+
+pub escaped-none : (q : Bool) (s : List ℕ) (i : ℕ) → Escaped q s i i 0
+escaped-none q s i = record { later = omega arith; count = omega arith }
+
+pub escaped-on : (q : Bool) (s : List ℕ) (i j n c : ℕ) → Escaped q s i j n → byteAt s j ≡ 0x5C → escapeOf q (byteAt s (j + 1)) ≡ Escape.Byte c →
+    Escaped q s i (j + 2) (n + 1)
+escaped-on q s i j n c r b e = record {
+  later = omega (arith, r .later);
+  count = omega (arith, r .count, ap length (bytes-escape q s j b c e));
+}
+
 -- bounds ------------------------------------------------------------------------------------------------------------------------
 
 -- a text ends where it starts or later, and within what is left; a quoted one before the end

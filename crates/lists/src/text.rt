@@ -18,12 +18,19 @@ ghost use Rattle.scan.specs.Scan.{byteAt, runAt};
 ghost use Rattle.store.specs.Sevens.{named};
 ghost use Rattle.store.specs.Splice.{Put, Room};
 ghost use Rattle.lists.specs.Lists.{textAt};
+ghost use Rattle.lists.specs.TextLaws.{Escaped};
 ghost use Rattle.lists.specs.Text.{quotedEscape, plainEscape, escapeOf, own, stopAt as stopOf, textEndAt, bytesAt};
 
 // What a backslash and the byte after it stand for.
 pub enum Escape {
     Byte(u8),
     Bad,
+}
+
+// Escapes that stand one after the other: the position past them, and how many.
+pub struct Escapes {
+    pub at: usize,
+    pub n: usize,
 }
 
 // Where a text ends.
@@ -140,6 +147,25 @@ pub fn text_end(s: &[u8], at: usize, quoted: bool, classes: &[u8; 256]) -> TextE
     }
 }
 
+// Past the escapes that stand at `at` one after the other, and how many.
+fn past_escapes(s: &[u8], at: usize, quoted: bool) -> Escapes
+    ensures { λ r. ⌜ Escaped quoted (now (s .entry)) at (r .at) (r .n) ⌝ }
+{
+    let mut i = at;
+    let mut n: usize = 0;
+    while i < s.len() {
+        if s[i] != 0x5C {
+            return Escapes { at: i, n: n };
+        }
+        let Escape::Byte(_) = escape_of(quoted, byte_at(s, i + 1)) else {
+            return Escapes { at: i, n: n };
+        };
+        i += 2;
+        n += 1;
+    }
+    Escapes { at: i, n: n }
+}
+
 // How many bytes the text at `at` stands for.
 pub fn text_size(s: &[u8], at: usize, quoted: bool, classes: &[u8; 256]) -> usize
     requires { ⌜ Classes (now classes) ⌝ }
@@ -156,8 +182,9 @@ pub fn text_size(s: &[u8], at: usize, quoted: bool, classes: &[u8; 256]) -> usiz
         let Escape::Byte(_) = escape_of(quoted, byte_at(s, j + 1)) else {
             return n;
         };
-        n += 1;
-        i = j + 2;
+        let e = past_escapes(s, j + 2, quoted);
+        n += e.n + 1;
+        i = e.at;
     }
 }
 
