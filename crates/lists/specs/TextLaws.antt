@@ -2,7 +2,7 @@
 -- Assumes nothing.
 use mathlib.Core.Path.{_≡_, refl, _∙_, sym, ap}
 use mathlib.Core.Bool.{Bool, true, false, cond}
-use mathlib.Core.List.{List, [], _∷_, _++_, append-assoc}
+use mathlib.Core.List.{List, [], _∷_, _++_, append-assoc, append-nil}
 use Prim.Native.Nat.{ℕ, suc, _+_, _-_, _<_, _≤_}
 use native.Mathlib.Omega.{arith}
 use native.Mathlib.Decide.{decLt}
@@ -111,6 +111,10 @@ module _ (q : Bool) (s : List ℕ) where
       go (yes k) = rw (drop-step s j k, h k, ne-eqb _ _ n, bytesFrom)
       go (no k) = let z : length s ≤ j = omega arith in rw (drop-of-length-le s z)
 
+  -- without a backslash behind it, a run is the whole text
+  pub bytes-whole : (i : ℕ) → (byteAt s (runAt (own q) s i) ≡ 0x5C → ⊥) → bytesAt q s i ≡ partOf s i (runAt (own q) s i)
+  bytes-whole i n = bytes-run i ∙ rw (bytes-stop (runAt (own q) s i) (run-stands i) n) (append-nil (partOf s i (runAt (own q) s i)))
+
   -- escapes -----------------------------------------------------------------------------------------------------------------------
 
   module _ (j : ℕ) (b : byteAt s j ≡ 0x5C) where
@@ -157,6 +161,21 @@ module _ (q : Bool) (s : List ℕ) where
         go : Dec (j + 1 < length s) → bytesFrom q true (drop (j + 1) s) ≡ []
         go (yes k) = rw (drop-step s (j + 1) k, e, bytesFrom)
         go (no k) = let z : length s ≤ j + 1 = omega arith in rw (drop-of-length-le s z)
+
+-- escapes one after the other: n of them stand from i up to j
+pub record Escaped (q : Bool) (s : List ℕ) (i j n : ℕ) : Type 0 where
+  pub later : i ≤ j
+  pub count : length (bytesAt q s i) ≡ n + length (bytesAt q s j)
+
+pub escaped-none : (q : Bool) (s : List ℕ) (i : ℕ) → Escaped q s i i 0
+escaped-none q s i = record { later = omega arith; count = omega arith }
+
+pub escaped-on : (q : Bool) (s : List ℕ) (i j n c : ℕ) → Escaped q s i j n → byteAt s j ≡ 0x5C → escapeOf q (byteAt s (j + 1)) ≡ Escape.Byte c →
+    Escaped q s i (j + 2) (n + 1)
+escaped-on q s i j n c r b e = record {
+  later = omega (arith, r .later);
+  count = omega (arith, r .count, ap length (bytes-escape q s j b c e));
+}
 
 -- bounds ------------------------------------------------------------------------------------------------------------------------
 

@@ -4,11 +4,10 @@ use super::option::empty_key;
 use super::text::TextEnd;
 use super::text::copy_text;
 use super::text::item_text;
+use super::text::put_text;
 use super::text::text_end;
-use super::text::text_size;
 use blocks::run::skip_spaces;
 use scan::part::byte_at;
-use store::put_number;
 ghost use mathlib.Core.Path.{_≡_};
 ghost use mathlib.Core.Bool.{false, _&&_, _||_};
 ghost use Prim.Native.Nat.{_+_};
@@ -100,9 +99,7 @@ pub fn put_item(s: &[u8], at: usize, classes: &[u8; 256], store: &mut [u8], to: 
     ensures { λ r. ⌜ Put (now (store .entry)) (now (store .exit)) to r (named (textAt (now (s .entry)) at)) ⌝ }
 {
     let t = item_text(s, at);
-    let n = text_size(s, t.from, t.quoted, classes);
-    let i = put_number(store, to, n as u64);
-    copy_text(s, t.from, t.quoted, classes, store, i)
+    put_text(s, t.from, t.quoted, classes, store, to)
 }
 
 // One more item is passed: it is the one asked for, or one of those before it, or one behind it.
@@ -117,7 +114,7 @@ fn passed(p: Picked, x: Item) -> Picked
                 Picked::Ahead(n - 1)
             }
         }
-        Picked::Item(_) => p,
+        Picked::Item(y) => Picked::Item(y),
     }
 }
 

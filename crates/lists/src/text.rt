@@ -1,10 +1,13 @@
 // The text of an item, quoted or plain.
 // Beside parse_quote and parse_text of parse.rs: runs of bytes that stand for themselves, and escapes between them.
+use blocks::run::RunStart;
+use blocks::run::first_two;
 use blocks::run::long_run_end;
 use scan::classes::Kind;
 use scan::part::byte_at;
 use scan::part::part;
 use store::put_bytes;
+use store::put_number;
 ghost use mathlib.Core.Path.{_≡_};
 ghost use mathlib.Core.Bool.{cond};
 ghost use Prim.Native.Nat.{_+_};
@@ -12,14 +15,22 @@ ghost use lib.Dec.{eqb};
 ghost use lib.ListN.{length};
 ghost use Rattle.scan.specs.Bytes.{Classes};
 ghost use Rattle.scan.specs.Scan.{byteAt, runAt};
+ghost use Rattle.store.specs.Sevens.{named};
 ghost use Rattle.store.specs.Splice.{Put, Room};
 ghost use Rattle.lists.specs.Lists.{textAt};
+ghost use Rattle.lists.specs.TextLaws.{Escaped};
 ghost use Rattle.lists.specs.Text.{quotedEscape, plainEscape, escapeOf, own, stopAt as stopOf, textEndAt, bytesAt};
 
 // What a backslash and the byte after it stand for.
 pub enum Escape {
     Byte(u8),
     Bad,
+}
+
+// Escapes that stand one after the other: the position past them, and how many.
+pub struct Escapes {
+    pub at: usize,
+    pub n: usize,
 }
 
 // Where a text ends.
@@ -87,15 +98,21 @@ pub fn escape_of(quoted: bool, b: u8) -> Escape
     }
 }
 
-// Past the bytes from `at` on that stand for themselves.
+// Past the bytes from `at` on that stand for themselves: none, or one, is told at once.
 fn own_end(s: &[u8], at: usize, quoted: bool, classes: &[u8; 256]) -> usize
     requires { ⌜ Classes (now classes) ⌝ }
     ensures { λ r. ⌜ r ≡ runAt (own quoted) (now (s .entry)) at ⌝ }
 {
     if quoted {
-        long_run_end(s, at, classes, Kind::Quoted)
+        match first_two(s, at, classes, Kind::Quoted) {
+            RunStart::Ends(i) => i,
+            RunStart::GoesOn(i) => long_run_end(s, i, classes, Kind::Quoted),
+        }
     } else {
-        long_run_end(s, at, classes, Kind::Plain)
+        match first_two(s, at, classes, Kind::Plain) {
+            RunStart::Ends(i) => i,
+            RunStart::GoesOn(i) => long_run_end(s, i, classes, Kind::Plain),
+        }
     }
 }
 
@@ -130,6 +147,25 @@ pub fn text_end(s: &[u8], at: usize, quoted: bool, classes: &[u8; 256]) -> TextE
     }
 }
 
+// Past the escapes that stand at `at` one after the other, and how many.
+fn past_escapes(s: &[u8], at: usize, quoted: bool) -> Escapes
+    ensures { λ r. ⌜ Escaped quoted (now (s .entry)) at (r .at) (r .n) ⌝ }
+{
+    let mut i = at;
+    let mut n: usize = 0;
+    while i < s.len() {
+        if s[i] != 0x5C {
+            return Escapes { at: i, n: n };
+        }
+        let Escape::Byte(_) = escape_of(quoted, byte_at(s, i + 1)) else {
+            return Escapes { at: i, n: n };
+        };
+        i += 2;
+        n += 1;
+    }
+    Escapes { at: i, n: n }
+}
+
 // How many bytes the text at `at` stands for.
 pub fn text_size(s: &[u8], at: usize, quoted: bool, classes: &[u8; 256]) -> usize
     requires { ⌜ Classes (now classes) ⌝ }
@@ -146,8 +182,9 @@ pub fn text_size(s: &[u8], at: usize, quoted: bool, classes: &[u8; 256]) -> usiz
         let Escape::Byte(_) = escape_of(quoted, byte_at(s, j + 1)) else {
             return n;
         };
-        n += 1;
-        i = j + 2;
+        let e = past_escapes(s, j + 2, quoted);
+        n += e.n + 1;
+        i = e.at;
     }
 }
 
@@ -179,4 +216,27 @@ pub fn copy_text(
         n = m + 1;
         i = j + 2;
     }
+}
+
+// Writes the text at `at` as a name: how many bytes it stands for, and these. One without an escape is copied as it stands.
+pub fn put_text(
+    s: &[u8],
+    at: usize,
+    quoted: bool,
+    classes: &[u8; 256],
+    store: &mut [u8],
+    to: usize,
+) -> usize
+    requires { ⌜ Classes (now classes) ⌝ }
+    requires { ⌜ Room (now store) to (named (bytesAt quoted (now s) at)) ⌝ }
+    ensures { λ r. ⌜ Put (now (store .entry)) (now (store .exit)) to r (named (bytesAt quoted (now (s .entry)) at)) ⌝ }
+{
+    let j = own_end(s, at, quoted, classes);
+    if byte_at(s, j) != 0x5C {
+        let i = put_number(store, to, (j - at) as u64);
+        return put_bytes(store, i, part(s, at, j));
+    }
+    let n = text_size(s, at, quoted, classes);
+    let i = put_number(store, to, n as u64);
+    copy_text(s, at, quoted, classes, store, i)
 }

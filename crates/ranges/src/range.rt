@@ -5,11 +5,17 @@ use scan::classes::Kind;
 use scan::classes::is_kind;
 use scan::decimal::Decimal;
 use scan::decimal::digits;
+use scan::decimal::is_digit;
+use scan::decimal::many_digits;
 use scan::part::byte_at;
 ghost use mathlib.Core.Path.{_≡_};
 ghost use Prim.Native.Nat.{_+_, _^_, _<_};
 ghost use Rattle.scan.specs.Bytes.{Classes};
+ghost use Rattle.ranges.specs.Offset.{offsetAt};
 ghost use Rattle.ranges.specs.Range.{escapedAtom, markAtom, signAtom, atomAt, isSign, offsetsAt, withOffsets, endingAt, double as doubleOf, rangeAt, wholeOf, wholeRange};
+
+// How long a text is where offsets may be many.
+const MANY: usize = 64;
 
 pub enum MoveDir1D {
     Next,
@@ -32,6 +38,12 @@ pub enum RangeEndingType {
 pub enum AtomRead {
     Absent,
     Found(RangeEndingType, usize),
+    TooLarge,
+}
+
+// An offset behind its sign: its size, the position past it, and the byte there.
+pub enum Offset {
+    Is(u64, usize, u8),
     TooLarge,
 }
 
@@ -84,30 +96,66 @@ pub fn is_sign(b: u8) -> bool
     b == 0x2B || b == 0x2D
 }
 
+// The offset at `at`, behind its sign: no digit, or one, is told at once.
+pub fn offset_at(s: &[u8], at: usize) -> Offset
+    ensures { λ r. ⌜ r ≡ offsetAt (now (s .entry)) at ⌝ }
+{
+    let b = byte_at(s, at);
+    if !is_digit(b) {
+        return Offset::Is(1, at, b);
+    }
+    let i = at + 1;
+    let c = byte_at(s, i);
+    if !is_digit(c) {
+        return Offset::Is((b - 0x30) as u64, i, c);
+    }
+    match many_digits(s, at) {
+        Decimal::Value(n, j) => Offset::Is(n, j, byte_at(s, j)),
+        Decimal::TooLarge => Offset::TooLarge,
+        Decimal::Absent => Offset::Is(1, at, b),
+    }
+}
+
+// Past offsets of one digit, each with a sign behind it: in a long text, where there may be many.
+fn past_pairs(s: &[u8], at: usize) -> usize
+    ensures { λ r. ⌜ offsetsAt (now (s .entry)) at ≡ offsetsAt (now (s .entry)) r ⌝ }
+{
+    if s.len() < MANY {
+        return at;
+    }
+    if !is_sign(byte_at(s, at)) {
+        return at;
+    }
+    let last = s.len() - 2;
+    let mut i = at;
+    while i < last {
+        if !is_digit(s[i + 1]) {
+            return i;
+        }
+        if !is_sign(s[i + 2]) {
+            return i;
+        }
+        i += 2;
+    }
+    i
+}
+
 // The position past the offsets that start at `at`.
-fn parse_range_modifiers(s: &[u8], at: usize, classes: &[u8; 256]) -> OffsetsRead
-    requires { ⌜ Classes (now classes) ⌝ }
+fn parse_range_modifiers(s: &[u8], at: usize) -> OffsetsRead
     ensures { λ r. ⌜ r ≡ offsetsAt (now (s .entry)) at ⌝ }
 {
-    let mut i = at;
-    while i < s.len() {
-        if !is_sign(s[i]) {
+    let mut i = past_pairs(s, at);
+    let mut b = byte_at(s, i);
+    loop {
+        if !is_sign(b) {
             return OffsetsRead::End(i);
         }
-        let j = i + 1;
-        match digits(s, j, classes) {
-            Decimal::Absent => {
-                i = j;
-            }
-            Decimal::Value(_, next) => {
-                i = next;
-            }
-            Decimal::TooLarge => {
-                return OffsetsRead::TooLarge;
-            }
-        }
+        let Offset::Is(_, j, c) = offset_at(s, i + 1) else {
+            return OffsetsRead::TooLarge;
+        };
+        i = j;
+        b = c;
     }
-    OffsetsRead::End(i)
 }
 
 // `\/`, `\?` and `\&`, by the byte after the backslash at `i`.
@@ -192,9 +240,9 @@ fn parse_range_ending(s: &[u8], at: usize, classes: &[u8; 256]) -> EndingRead
         AtomRead::Absent => with_offsets(
             RangeEndingType::Unspecified,
             at,
-            parse_range_modifiers(s, at, classes),
+            parse_range_modifiers(s, at),
         ),
-        AtomRead::Found(a, j) => with_offsets(a, j, parse_range_modifiers(s, j, classes)),
+        AtomRead::Found(a, j) => with_offsets(a, j, parse_range_modifiers(s, j)),
         AtomRead::TooLarge => EndingRead::TooLarge,
     }
 }

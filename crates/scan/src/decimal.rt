@@ -1,11 +1,13 @@
 // Decimal digits.
-use super::classes::Kind;
-use super::classes::is_kind;
+use super::part::byte_at;
 ghost use mathlib.Core.Path.{_≡_};
-ghost use mathlib.Core.Bool.{cond};
+ghost use mathlib.Core.Bool.{true, false, cond};
+ghost use Prim.Native.Nat.{_+_, _*_, _^_, _<_, _≤_};
 ghost use lib.Dec.{eqb};
-ghost use Rattle.scan.specs.Bytes.{Classes};
+ghost use lib.ListN.{length};
+ghost use Rattle.scan.specs.Bytes.{Classes, isDigit};
 ghost use Rattle.scan.specs.Scan.{digitsAt};
+ghost use Rattle.scan.specs.DigitsLaws.{Zeros};
 
 // Decimal digits at a position: none, or their value and the position past them, or a value above 2^64 - 1.
 pub enum Decimal {
@@ -13,6 +15,9 @@ pub enum Decimal {
     Value(u64, usize),
     TooLarge,
 }
+
+// How many zeros are tested at once.
+const BLOCK: usize = 32;
 
 fn number(at: usize, i: usize, n: u64) -> Decimal
     ensures { λ r. ⌜ r ≡ cond (eqb i at) Decimal.Absent (Decimal.Value n i) ⌝ }
@@ -24,23 +29,93 @@ fn number(at: usize, i: usize, n: u64) -> Decimal
     }
 }
 
-pub fn digits(s: &[u8], at: usize, classes: &[u8; 256]) -> Decimal
-    requires { ⌜ Classes (now classes) ⌝ }
+pub fn is_digit(b: u8) -> bool
+    ensures { λ r. ⌜ r ≡ isDigit b ⌝ }
+{
+    0x30 <= b && b <= 0x39
+}
+
+// Whether a digit more makes a number too large.
+fn too_large(n: u64, d: u64) -> bool
+    requires { ⌜ d ≤ 9 ⌝ }
+    ensures { λ r. ⌜ (r ≡ true → 2 ^ 64 ≤ n * 10 + d) × (r ≡ false → n * 10 + d < 2 ^ 64) ⌝ }
+{
+    if n <= 1844674407370955160 {
+        return false;
+    }
+    (18446744073709551615 - d) / 10 < n
+}
+
+fn still_zero(m: bool, b: u8) -> bool
+    ensures { λ r. ⌜ (r ≡ true → (m ≡ true) × (b ≡ 0x30)) ⌝ }
+{
+    if m { b == 0x30 } else { false }
+}
+
+// True only where the block at `at` is of zeros.
+fn all_zero(s: &[u8], at: usize) -> bool
+    requires { ⌜ at + 32 ≤ length (now s) ⌝ }
+    ensures { λ r. ⌜ (r ≡ true → Zeros (now (s .entry)) at (at + 32)) ⌝ }
+{
+    let mut m = true;
+    let mut i: usize = 0;
+    while i < BLOCK {
+        m = still_zero(m, s[at + i]);
+        i += 1;
+    }
+    m
+}
+
+// Past the blocks of zeros from `at` on.
+fn past_zeros(s: &[u8], at: usize) -> usize
+    ensures { λ r. ⌜ Zeros (now (s .entry)) at r ⌝ }
+{
+    if byte_at(s, at) != 0x30 {
+        return at;
+    }
+    let mut i = at;
+    while i < s.len() && BLOCK <= s.len() - i {
+        if !all_zero(s, i) {
+            return i;
+        }
+        i += BLOCK;
+    }
+    i
+}
+
+// The digits at `at`, however many: zeros in front of them by blocks.
+pub fn many_digits(s: &[u8], at: usize) -> Decimal
     ensures { λ r. ⌜ r ≡ digitsAt (now (s .entry)) at ⌝ }
 {
     let mut n: u64 = 0;
-    let mut i = at;
+    let mut i = past_zeros(s, at);
     while i < s.len() {
         let b = s[i];
-        if !is_kind(classes, Kind::Digit, b) {
+        if !is_digit(b) {
             return number(at, i, n);
         }
         let d = (b - 0x30) as u64;
-        if (18446744073709551615 - d) / 10 < n {
+        if too_large(n, d) {
             return Decimal::TooLarge;
         }
         n = n * 10 + d;
         i += 1;
     }
     number(at, i, n)
+}
+
+// The digits at `at`: none, or one, is told at once.
+pub fn digits(s: &[u8], at: usize, classes: &[u8; 256]) -> Decimal
+    requires { ⌜ Classes (now classes) ⌝ }
+    ensures { λ r. ⌜ r ≡ digitsAt (now (s .entry)) at ⌝ }
+{
+    let b = byte_at(s, at);
+    if !is_digit(b) {
+        return Decimal::Absent;
+    }
+    let i = at + 1;
+    if !is_digit(byte_at(s, i)) {
+        return Decimal::Value((b - 0x30) as u64, i);
+    }
+    many_digits(s, at)
 }

@@ -1,86 +1,118 @@
--- `sum::sum_mods` meets its contract. The invariant: the sum a and the offsets from i on are the sum of all.
+-- `sum::sum_mods` meets its contract. The invariant: b stands at i, and the sum so far and the offsets from i on are the sum of all.
 -- Assumes nothing.
-use mathlib.Core.Path.{_≡_, _∙_, sym}
+use mathlib.Core.Path.{_≡_, _∙_, sym, ap}
 use mathlib.Core.Bool.{true}
-use Prim.Native.Nat.{_-_}
+use Prim.Native.Nat.{ℕ, _-_, _+_}
 use native.Mathlib.Omega.{arith}
+use lib.Dec.{eqb}
 use lib.ListN.{length, getD}
 use borrow.Author.Needs.{needs}
 use borrow.Author.Tests.{not-true, not-false}
 use Rattle.ranges.specs.Range.{isSign}
-use Rattle.scan.specs.DigitsLaws.{digits-past}
+use Rattle.ranges.specs.OffsetLaws.{Passed, sign-inside, offset-large}
 use Rattle.ranges.specs.declared.range.MoveDir1D.{MoveDir1D}
 use Rattle.focus.specs.declared.sum.Sum.{Sum}
-use Rattle.focus.specs.Sum.{sumAt, sumOf}
-use Rattle.focus.specs.SumLaws.{sum-end, sum-off, sum-bare, sum-large, sum-value}
+use Rattle.focus.specs.Sum.{addIs, addTo, sumAt, sumOf}
+use Rattle.focus.specs.SumLaws.{sum-none, sum-large, sum-next, sum-over}
 use Rattle.focus.proofs.sum.sum_mods.Statement.{statement}
 use Rattle.focus.proofs.sum.sum_mods.Tie as tie
 
 abbrev Inv-loop : tie.InvT-loop
-Inv-loop s at classes i₀ a₀ i a = sumAt (Sum.Is MoveDir1D.Next 0) s at ≡ sumAt a s i
+Inv-loop s at classes i₀ d₀ n₀ b₀ i d n b = (b ≡ getD s i 0) × (sumAt (Sum.Is MoveDir1D.Next 0) s at ≡ sumAt (Sum.Is d n) s i)
 
 abbrev μ-loop : tie.MeasureT-loop
-μ-loop s at classes i₀ a₀ i a = length s - i
+μ-loop s at classes i₀ d₀ n₀ b₀ i d n b = length s - i
 
-signed : (c : tie.Else1 Inv-loop μ-loop) → isSign (getD (c .before .before .before .before .before .before .args .s .now) (c .before .before .before .before .loop .i) 0) ≡ true
-signed c = sym (c .before .is-sign .ensures) ∙ not-false _ (c .if1 .left)
+sum-pairs-requires : tie.Need-sum-pairs-requires Inv-loop μ-loop
+sum-pairs-requires c κs = search needs
+
+byte-at-requires : tie.Need-byte-at-requires Inv-loop μ-loop
+byte-at-requires c κs = search needs
 
 loop-holds : tie.Need-loop-holds Inv-loop μ-loop
 unfolding sumOf
-loop-holds c = search needs
-
-shared-slice-read-b : tie.Need-shared-slice-read-b Inv-loop μ-loop
-shared-slice-read-b c = search needs
+loop-holds c = (c .byte-at .ensures, c .before .sum-pairs .ensures)
 
 is-sign-requires : tie.Need-is-sign-requires Inv-loop μ-loop
 is-sign-requires c κs = search needs
 
 returns : tie.Need-returns Inv-loop μ-loop
 unfolding sumOf
-returns c = sym (c .before .before .before .before .loop .inv ∙ sum-off _ _ _ (search needs) (sym (c .before .is-sign .ensures) ∙ not-true _ (c .if1 .taken)))
+returns c =
+    let l = c .before .before .loop in
+    sym (l .inv .1 ∙ sum-none _ _ _ (sym (ap isSign (l .inv .0)) ∙ sym (c .before .is-sign .ensures) ∙ not-true _ (c .if1 .taken)))
 
-add-j : tie.Need-add-j Inv-loop μ-loop
-add-j c = search needs
+-- a sign stands at i
+signed : (c : tie.Else1 Inv-loop μ-loop) → isSign (getD (c .before .before .before .before .before .before .args .s .now) (c .before .before .loop .i) 0) ≡ true
+signed c = sym (ap isSign (c .before .before .loop .inv .0)) ∙ sym (c .before .is-sign .ensures) ∙ not-false _ (c .if1 .left)
 
-digits-requires : tie.Need-digits-requires Inv-loop μ-loop
-digits-requires c κs = search needs
+add-offset-at : tie.Need-add-offset-at Inv-loop μ-loop
+add-offset-at c = omega (arith, sign-inside (c .before .before .before .before .before .before .args .s .now) (c .before .before .loop .i) (signed c))
+
+offset-at-requires : tie.Need-offset-at-requires Inv-loop μ-loop
+offset-at-requires c κs = search needs
+
+enum-known-k : tie.Need-enum-known-k Inv-loop μ-loop
+enum-known-k c = search needs
 
 enum-told : tie.Need-enum-told Inv-loop μ-loop
 enum-told c = search needs
 
-add-to-requires : tie.Need-add-to-requires Inv-loop μ-loop
-add-to-requires c κs = search needs
-
-loop-less : tie.Need-loop-less Inv-loop μ-loop
-loop-less c = search needs
-
-loop-again : tie.Need-loop-again Inv-loop μ-loop
+returns-2 : tie.Need-returns-2 Inv-loop μ-loop
 unfolding sumOf
-loop-again c = rw (c .add-to .ensures) (c .before .before .before .before .before .before .before .before .loop .inv ∙ sum-bare _ _ _ (search needs) (signed (c .before .before .before .before)) (sym (c .before .before .before .digits .ensures) ∙ c .before .enum-told .given .1))
+returns-2 c =
+    let s = c .before .before .before .before .before .before .before .before .before .args .s .now in
+    let l = c .before .before .before .before .before .loop in
+    let t = signed (c .before .before .before) in
+    sym (l .inv .1 ∙ sum-large (Sum.Is (l .d) (l .n)) s (l .i) (sign-inside s (l .i) t) t (offset-large s (l .i + 1) (sym (c .before .before .offset-at .ensures) ∙ c .enum-told .given .1)))
 
-enum-known-n : tie.Need-enum-known-n Inv-loop μ-loop
-enum-known-n c = search needs
+add-is-requires : tie.Need-add-is-requires Inv-loop μ-loop
+add-is-requires c κs = search needs
 
-add-to-requires-2 : tie.Need-add-to-requires-2 Inv-loop μ-loop
-add-to-requires-2 c κs = search needs
+-- the offset at i is passed
+passed : (c : tie.After-known-told Inv-loop μ-loop) →
+    let s = c .before .before .before .before .before .before .before .before .before .before .args .s .now in
+    let l = c .before .before .before .before .before .before .loop in
+    let o = c .before .k .given .0 in
+    Passed s (l .i) (o .0) (o .1 .0) (o .1 .1 .0) (sumAt (Sum.Is (l .d) (l .n)) s (l .i)) (λ m k. sumAt (addTo (Sum.Is (l .d) (l .n)) (eqb (getD s (l .i) 0) 0x2B) m) s k)
+passed c =
+    sum-next _ _ _ _ _ _ (signed (c .before .before .before .before)) (sym (c .before .before .before .offset-at .ensures) ∙ c .before .k .given .1)
 
-loop-less-2 : tie.Need-loop-less-2 Inv-loop μ-loop
-loop-less-2 c = omega (arith, digits-past (c .before .before .before .before .before .before .before .before .before .before .before .args .s .now) _ _ _ (search needs) (sym (c .before .before .before .before .digits .ensures) ∙ c .before .before .n .given .1))
+-- the sum of all, by the sum up to the offset and the offset
+added : (c : tie.After-known-told Inv-loop μ-loop) →
+    let a = c .before .before .before .before .before .before .before .before .before .before .args in
+    let l = c .before .before .before .before .before .before .loop in
+    let o = c .before .k .given .0 in
+    sumAt (Sum.Is MoveDir1D.Next 0) (a .s .now) (a .at) ≡ sumAt (addIs (l .d) (l .n) (eqb (l .b) 0x2B) (o .0)) (a .s .now) (o .1 .0)
+unfolding addTo
+added c = let l = c .before .before .before .before .before .before .loop in rw (l .inv .0) (l .inv .1 ∙ passed c .goes)
 
-loop-again-2 : tie.Need-loop-again-2 Inv-loop μ-loop
-unfolding sumOf
-loop-again-2 c = rw (c .add-to2 .ensures) (c .before .before .before .before .before .before .before .before .before .loop .inv ∙ sum-value _ _ _ _ _ (search needs) (signed (c .before .before .before .before .before)) (sym (c .before .before .before .before .digits .ensures) ∙ c .before .before .n .given .1))
+enum-known-e : tie.Need-enum-known-e Inv-loop μ-loop
+enum-known-e c = search needs
 
 enum-told-2 : tie.Need-enum-told-2 Inv-loop μ-loop
 enum-told-2 c = search needs
 
-returns-2 : tie.Need-returns-2 Inv-loop μ-loop
-unfolding sumOf
-returns-2 c = sym (c .before .before .before .before .before .before .before .loop .inv ∙ sum-large _ _ _ (search needs) (signed (c .before .before .before)) (sym (c .before .before .digits .ensures) ∙ c .enum-told2 .given .1))
-
 returns-3 : tie.Need-returns-3 Inv-loop μ-loop
 unfolding sumOf
-returns-3 c = sym (c .before .loop .inv ∙ sum-end _ _ _ (search needs))
+returns-3 c =
+    let q = c .before .before .before in
+    let s = q .before .before .before .before .before .before .before .before .before .before .args .s .now in
+    let j = q .before .k .given .0 .1 .0 in
+    sym
+    (added q
+    ∙ ap (λ (a : Sum). sumAt a s j) (sym (c .before .before .add-is .ensures) ∙ c .enum-told2 .given .1)
+    ∙ sum-over s j)
+
+loop-less : tie.Need-loop-less Inv-loop μ-loop
+loop-less c = let p = passed (c .before .before .before .before) in omega (arith, p .later, p .within)
+
+loop-again : tie.Need-loop-again Inv-loop μ-loop
+loop-again c =
+    let q = c .before .before .before .before in
+    let s = q .before .before .before .before .before .before .before .before .before .before .args .s .now in
+    let j = q .before .k .given .0 .1 .0 in
+    (passed q .byte, added q ∙ ap (λ (a : Sum). sumAt a s j) (sym (c .before .before .before .add-is .ensures) ∙ c .before .e .given .1))
 
 pub sum-mods-spec : {M : Type 1} → statement M
 sum-mods-spec =
@@ -88,20 +120,19 @@ sum-mods-spec =
     (tie.spec
     Inv-loop
     μ-loop
+    sum-pairs-requires
+    byte-at-requires
     loop-holds
-    shared-slice-read-b
     is-sign-requires
     returns
-    add-j
-    digits-requires
+    add-offset-at
+    offset-at-requires
+    enum-known-k
     enum-told
-    add-to-requires
-    loop-less
-    loop-again
-    enum-known-n
-    add-to-requires-2
-    loop-less-2
-    loop-again-2
-    enum-told-2
     returns-2
-    returns-3)
+    add-is-requires
+    enum-known-e
+    enum-told-2
+    returns-3
+    loop-less
+    loop-again)

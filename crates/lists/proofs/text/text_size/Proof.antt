@@ -86,17 +86,32 @@ escaped c = bytes-escape _ _ _ (sym (c .before .before .before .before .before .
 next : (c : tie.After-enum-told Inv-loop μ-loop) → c .before .before .before .before .before .before .own-end .result + 1 < length (c .before .before .before .before .before .before .before .before .before .args .s .now)
 next c = escape-inside _ (c .before .before .before .before .before .before .before .before .before .args .s .now) _ _ (taken c)
 
-add-n-2 : tie.Need-add-n-2 Inv-loop μ-loop
-add-n-2 c = omega (arith, left (c .before .before .before .before .before .before), ap length (escaped c), bytes-length (c .before .before .before .before .before .before .before .before .before .args .quoted) (c .before .before .before .before .before .before .before .before .before .args .s .now) (c .before .before .before .before .before .before .before .before .before .args .at))
+add-past-escapes : tie.Need-add-past-escapes Inv-loop μ-loop
+add-past-escapes c = omega (arith, next c)
 
-add-i : tie.Need-add-i Inv-loop μ-loop
-add-i c = omega (arith, next c)
+past-escapes-requires : tie.Need-past-escapes-requires Inv-loop μ-loop
+past-escapes-requires c κs = search needs
+
+add-n-2 : tie.Need-add-n-2 Inv-loop μ-loop
+add-n-2 c =
+    let q = c .before .before in
+    let a = q .before .before .before .before .before .before .before .before .before .args in
+    omega (arith, left (q .before .before .before .before .before .before), ap length (escaped q), c .before .past-escapes .ensures .count, bytes-length (a .quoted) (a .s .now) (a .at))
+
+add-n-3 : tie.Need-add-n-3 Inv-loop μ-loop
+add-n-3 c =
+    let q = c .before .before in
+    let a = q .before .before .before .before .before .before .before .before .before .args in
+    omega (arith, left (q .before .before .before .before .before .before), ap length (escaped q), c .before .past-escapes .ensures .count, bytes-length (a .quoted) (a .s .now) (a .at))
 
 loop-less : tie.Need-loop-less Inv-loop μ-loop
-loop-less c = omega (arith, next c, c .before .before .before .before .before .before .own-end .ensures, runAt-le (own (c .before .before .before .before .before .before .before .before .before .args .quoted)) (c .before .before .before .before .before .before .before .before .before .args .s .now) (c .before .before .before .before .before .before .before .loop .i))
+loop-less c =
+    let q = c .before .before in
+    let a = q .before .before .before .before .before .before .before .before .before .args in
+    omega (arith, next q, q .before .before .before .before .before .before .own-end .ensures, runAt-le (own (a .quoted)) (a .s .now) (q .before .before .before .before .before .before .before .loop .i), c .before .past-escapes .ensures .later)
 
 loop-again : tie.Need-loop-again Inv-loop μ-loop
-loop-again c = omega (arith, left (c .before .before .before .before .before .before), ap length (escaped c))
+loop-again c = let q = c .before .before in omega (arith, left (q .before .before .before .before .before .before), ap length (escaped q), c .before .past-escapes .ensures .count)
 
 pub text-size-spec : {M : Type 1} → statement M
 text-size-spec =
@@ -116,7 +131,9 @@ text-size-spec =
     enum-told
     enum-told-2
     returns-2
+    add-past-escapes
+    past-escapes-requires
     add-n-2
-    add-i
+    add-n-3
     loop-less
     loop-again)

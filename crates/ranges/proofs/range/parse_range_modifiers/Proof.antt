@@ -1,91 +1,78 @@
--- `range::parse_range_modifiers` meets its contract. The invariant: the offsets from i on end where those from the start do.
+-- `range::parse_range_modifiers` meets its contract. The invariant: b stands at i, and the offsets from i on end where those from the start do.
 -- Assumes nothing.
-use mathlib.Core.Path.{_≡_, _∙_, sym}
-use Prim.Native.Nat.{_-_}
-use lib.ListN.{length, getD}
+use mathlib.Core.Path.{_≡_, _∙_, sym, ap}
 use mathlib.Core.Bool.{true}
+use Prim.Native.Nat.{_-_, _+_}
 use native.Mathlib.Omega.{arith}
+use lib.ListN.{length, getD}
 use borrow.Author.Tests.{not-true, not-false}
 use Rattle.ranges.specs.Range.{isSign, offsetsAt}
-use Rattle.scan.specs.DigitsLaws.{digits-past}
-use Rattle.ranges.proofs.RangeLaws.{offsetsAt-end, offsetsAt-stop, offsetsAt-bare, offsetsAt-large, offsetsAt-value}
+use Rattle.ranges.specs.OffsetLaws.{Passed, sign-inside, offset-large}
+use Rattle.ranges.proofs.RangeLaws.{offsetsAt-none, offsetsAt-large, offsetsAt-next}
 use borrow.Author.Needs.{needs}
 use Rattle.ranges.proofs.range.parse_range_modifiers.Statement.{statement}
 use Rattle.ranges.proofs.range.parse_range_modifiers.Tie as tie
 
 abbrev Inv-loop : tie.InvT-loop
-Inv-loop s at classes i₀ i = offsetsAt s at ≡ offsetsAt s i
+Inv-loop s at i₀ b₀ i b = (b ≡ getD s i 0) × (offsetsAt s at ≡ offsetsAt s i)
 
 abbrev μ-loop : tie.MeasureT-loop
-μ-loop s at classes i₀ i = length s - i
+μ-loop s at i₀ b₀ i b = length s - i
+
+past-pairs-requires : tie.Need-past-pairs-requires Inv-loop μ-loop
+past-pairs-requires c κs = search needs
+
+byte-at-requires : tie.Need-byte-at-requires Inv-loop μ-loop
+byte-at-requires c κs = search needs
 
 loop-holds : tie.Need-loop-holds Inv-loop μ-loop
-loop-holds c = search needs
-
-shared-slice-read-is-sign : tie.Need-shared-slice-read-is-sign Inv-loop μ-loop
-shared-slice-read-is-sign c = search needs
+loop-holds c = (c .byte-at .ensures, c .before .past-pairs .ensures)
 
 is-sign-requires : tie.Need-is-sign-requires Inv-loop μ-loop
 is-sign-requires c κs = search needs
 
 returns : tie.Need-returns Inv-loop μ-loop
 returns c =
-    sym
-    (c .before .before .before .before .loop .inv
-    ∙ offsetsAt-stop _ _ (search needs) (sym (c .before .is-sign .ensures) ∙ not-true _ (c .if1 .taken)))
+    let l = c .before .before .loop in
+    sym (l .inv .1 ∙ offsetsAt-none _ _ (sym (ap isSign (l .inv .0)) ∙ sym (c .before .is-sign .ensures) ∙ not-true _ (c .if1 .taken)))
 
-add-j : tie.Need-add-j Inv-loop μ-loop
-add-j c = search needs
+-- a sign stands at i
+signed : (c : tie.Else1 Inv-loop μ-loop) → isSign (getD (c .before .before .before .before .before .before .args .s .now) (c .before .before .loop .i) 0) ≡ true
+signed c = sym (ap isSign (c .before .before .loop .inv .0)) ∙ sym (c .before .is-sign .ensures) ∙ not-false _ (c .if1 .left)
 
-digits-requires : tie.Need-digits-requires Inv-loop μ-loop
-digits-requires c κs = search needs
+add-offset-at : tie.Need-add-offset-at Inv-loop μ-loop
+add-offset-at c = omega (arith, sign-inside (c .before .before .before .before .before .before .args .s .now) (c .before .before .loop .i) (signed c))
+
+offset-at-requires : tie.Need-offset-at-requires Inv-loop μ-loop
+offset-at-requires c κs = search needs
+
+enum-known-j : tie.Need-enum-known-j Inv-loop μ-loop
+enum-known-j c = search needs
 
 enum-told : tie.Need-enum-told Inv-loop μ-loop
 enum-told c = search needs
 
-loop-less : tie.Need-loop-less Inv-loop μ-loop
-loop-less c = search needs
-
-signed : (c : tie.Else1 Inv-loop μ-loop) →
-    isSign (getD (c .before .before .before .before .before .before .args .s .now) (c .before .before .before .before .loop .i) 0) ≡ true
-signed c = sym (c .before .is-sign .ensures) ∙ not-false _ (c .if1 .left)
-
-loop-again : tie.Need-loop-again Inv-loop μ-loop
-loop-again c =
-    let d = c .before .before in
-    d .before .before .before .before .before .loop .inv
-    ∙ offsetsAt-bare _ _ (search needs) (signed (d .before)) (sym (d .digits .ensures) ∙ c .enum-told .given .1)
-
-enum-known-next : tie.Need-enum-known-next Inv-loop μ-loop
-enum-known-next c = search needs
-
-loop-less-2 : tie.Need-loop-less-2 Inv-loop μ-loop
-loop-less-2 c =
-    let d = c .before .before .before in
-    omega (
-      arith,
-      digits-past (d .before .before .before .before .before .before .before .args .s .now) _ _ _ (search needs)
-          (sym (d .digits .ensures) ∙ c .before .next .given .1),
-    )
-
-loop-again-2 : tie.Need-loop-again-2 Inv-loop μ-loop
-loop-again-2 c =
-    let d = c .before .before .before in
-    d .before .before .before .before .before .loop .inv
-    ∙ offsetsAt-value _ _ _ _ (search needs) (signed (d .before)) (sym (d .digits .ensures) ∙ c .before .next .given .1)
-
-enum-told-2 : tie.Need-enum-told-2 Inv-loop μ-loop
-enum-told-2 c = search needs
-
 returns-2 : tie.Need-returns-2 Inv-loop μ-loop
 returns-2 c =
-    let d = c .before .before in
-    sym
-    (d .before .before .before .before .before .loop .inv
-    ∙ offsetsAt-large _ _ (search needs) (signed (d .before)) (sym (d .digits .ensures) ∙ c .enum-told2 .given .1))
+    let s = c .before .before .before .before .before .before .before .before .before .args .s .now in
+    let l = c .before .before .before .before .before .loop in
+    let t = signed (c .before .before .before) in
+    sym (l .inv .1 ∙ offsetsAt-large s (l .i) (sign-inside s (l .i) t) t (offset-large s (l .i + 1) (sym (c .before .before .offset-at .ensures) ∙ c .enum-told .given .1)))
 
-returns-3 : tie.Need-returns-3 Inv-loop μ-loop
-returns-3 c = sym (c .before .loop .inv ∙ offsetsAt-end _ _ (search needs))
+-- the offset at i is passed
+passed : (c : tie.After-known-told Inv-loop μ-loop) →
+    let s = c .before .before .before .before .before .before .before .before .before .before .args .s .now in
+    let i = c .before .before .before .before .before .before .loop .i in
+    let o = c .before .j .given .0 in
+    Passed s i (o .0) (o .1 .0) (o .1 .1 .0) (offsetsAt s i) (λ m k. offsetsAt s k)
+passed c =
+    offsetsAt-next _ _ _ _ _ (signed (c .before .before .before .before)) (sym (c .before .before .before .offset-at .ensures) ∙ c .before .j .given .1)
+
+loop-less : tie.Need-loop-less Inv-loop μ-loop
+loop-less c = omega (arith, passed c .later, passed c .within)
+
+loop-again : tie.Need-loop-again Inv-loop μ-loop
+loop-again c = (passed c .byte, c .before .before .before .before .before .before .loop .inv .1 ∙ passed c .goes)
 
 pub parse-range-modifiers-spec : {M : Type 1} → statement M
 parse-range-modifiers-spec =
@@ -93,18 +80,15 @@ parse-range-modifiers-spec =
     (tie.spec
     Inv-loop
     μ-loop
+    past-pairs-requires
+    byte-at-requires
     loop-holds
-    shared-slice-read-is-sign
     is-sign-requires
     returns
-    add-j
-    digits-requires
+    add-offset-at
+    offset-at-requires
+    enum-known-j
     enum-told
-    loop-less
-    loop-again
-    enum-known-next
-    loop-less-2
-    loop-again-2
-    enum-told-2
     returns-2
-    returns-3)
+    loop-less
+    loop-again)

@@ -1,127 +1,69 @@
--- `decimal::digits` meets its contract. The invariant: the run goes on at i, and what is left, read after n, has the value of the whole.
+-- `decimal::digits` meets its contract.
 -- Assumes nothing.
-use mathlib.Core.Path.{_≡_, _∙_, sym}
-use mathlib.Core.Bool.{true}
-use Prim.Native.Nat.{_+_, _*_, _≤_, _<_, _^_, _-_}
+use mathlib.Core.Path.{_≡_, _∙_, sym, ap}
+use mathlib.Core.Bool.{true, false}
 use native.Mathlib.Omega.{arith}
+use lib.ListN.{getD}
 use borrow.Author.Tests.{not-true, not-false}
-use lib.ListN.{length, getD}
-use Rattle.scan.specs.Bytes.{isDigit, isKind}
-use Rattle.scan.specs.Scan.{runAt, valueAt}
-use Rattle.scan.specs.DigitsLaws.{Digital, digital, valueAt-on, valueAt-off, valueAt-end, valueAt-le, digits-done, digits-over}
-use Rattle.scan.specs.RunLaws.{runAt-on, runAt-off, runAt-end, runAt-le}
+use Rattle.scan.specs.Bytes.{isDigit}
+use Rattle.scan.specs.DigitsLaws.{digital, digit-inside, digits-none, digits-one}
 use borrow.Author.Needs.{needs}
 use Rattle.scan.proofs.decimal.digits.Statement.{statement}
 use Rattle.scan.proofs.decimal.digits.Tie as tie
 
-abbrev Inv-loop : tie.InvT-loop
-Inv-loop s at classes n₀ i₀ n i = (at ≤ i) × (n < 2 ^ 64) × (runAt isDigit s at ≡ runAt isDigit s i) × (valueAt 0 s at ≡ valueAt n s i)
+byte-at-requires : tie.Need-byte-at-requires
+byte-at-requires c κs = search needs
 
-abbrev μ-loop : tie.MeasureT-loop
-μ-loop s at classes n₀ i₀ n i = length s - i
+is-digit-requires : tie.Need-is-digit-requires
+is-digit-requires c κs = search needs
 
-loop-holds : tie.Need-loop-holds Inv-loop μ-loop
-loop-holds c = search needs
-
-shared-slice-read-b : tie.Need-shared-slice-read-b Inv-loop μ-loop
-shared-slice-read-b c = search needs
-
-is-kind-requires : tie.Need-is-kind-requires Inv-loop μ-loop
-is-kind-requires c κs = search needs
-
-number-requires : tie.Need-number-requires Inv-loop μ-loop
-number-requires c κs = search needs
-
-returns : tie.Need-returns Inv-loop μ-loop
-unfolding isKind
+returns : tie.Need-returns
 returns c =
-    let l = c .before .before .before .before .before .loop in
-    let t = sym (c .before .before .is-kind .ensures) ∙ not-true _ (c .before .if1 .taken) in
-    c .number .ensures
-    ∙ digits-done _ _ _ _ (l .inv .2 ∙ runAt-off _ _ _ (search needs) t) (l .inv .3 ∙ valueAt-off _ _ _ (search needs) t) (l .inv .1)
+    digits-none _ _ (sym (ap isDigit (c .before .before .byte-at .ensures)) ∙ sym (c .before .is-digit .ensures) ∙ not-true _ (c .if1 .taken))
 
-is-digit : (c : tie.Else1 Inv-loop μ-loop) →
-    isDigit (getD (c .before .before .before .before .before .before .args .s .now) (c .before .before .before .before .loop .i) 0) ≡ true
-unfolding isKind
-is-digit c = sym (c .before .is-kind .ensures) ∙ not-false _ (c .if1 .left)
+-- the first byte is a digit
+first : (c : tie.Else1) → isDigit (getD (c .before .before .before .before .args .s .now) (c .before .before .before .before .args .at) 0) ≡ true
+first c = sym (ap isDigit (c .before .before .byte-at .ensures)) ∙ sym (c .before .is-digit .ensures) ∙ not-false _ (c .if1 .left)
 
-here : (c : tie.Else1 Inv-loop μ-loop) →
-    Digital (getD (c .before .before .before .before .before .before .args .s .now) (c .before .before .before .before .loop .i) 0)
-here c = digital _ (is-digit c)
+add-i : tie.Need-add-i
+add-i c = let a = c .before .before .before .before .args in omega (arith, digit-inside (a .s .now) (a .at) (first c))
 
-sub-d : tie.Need-sub-d Inv-loop μ-loop
-sub-d c = omega (arith, here c)
+byte-at-requires-2 : tie.Need-byte-at-requires-2
+byte-at-requires-2 c κs = search needs
 
-cast-d : tie.Need-cast-d Inv-loop μ-loop
-cast-d c = omega (arith, here c)
+is-digit-requires-2 : tie.Need-is-digit-requires-2
+is-digit-requires-2 c κs = search needs
 
-sub-if2 : tie.Need-sub-if2 Inv-loop μ-loop
-sub-if2 c = omega (arith, here c)
+sub-t9 : tie.Need-sub-t9
+sub-t9 c = omega (arith, digital _ (first (c .before .before .before)), c .before .before .before .before .before .byte-at .ensures)
 
-returns-2 : tie.Need-returns-2 Inv-loop μ-loop
+cast-t10 : tie.Need-cast-t10
+cast-t10 c = search needs
+
+returns-2 : tie.Need-returns-2
 returns-2 c =
-    let l = c .before .before .before .before .before .loop in
-    let s = c .before .before .before .before .before .before .before .args .s .now in
-    let t = is-digit (c .before) in
-    digits-over _ _
-    (omega (arith, runAt-on isDigit s (l .i) (search needs) t, runAt-le isDigit s (l .i + 1)))
-    (omega (
-      arith,
-      here (c .before),
-      valueAt-on (l .n) s (l .i) (search needs) t,
-      valueAt-le (l .n * 10 + (getD s (l .i) 0 - 48)) s (l .i + 1),
-    ))
+    rw (c .before .before .before .before .before .byte-at .ensures)
+    (digits-one _ _ (first (c .before .before .before))
+    (sym (ap isDigit (c .before .before .byte-at2 .ensures)) ∙ sym (c .before .is-digit2 .ensures) ∙ not-true _ (c .if2 .taken)))
 
-mul-n : tie.Need-mul-n Inv-loop μ-loop
-mul-n c = search needs
+many-digits-requires : tie.Need-many-digits-requires
+many-digits-requires c κs = search needs
 
-add-n : tie.Need-add-n Inv-loop μ-loop
-add-n c = omega (arith, here (c .before))
-
-add-i : tie.Need-add-i Inv-loop μ-loop
-add-i c = search needs
-
-loop-less : tie.Need-loop-less Inv-loop μ-loop
-loop-less c = search needs
-
-loop-again : tie.Need-loop-again Inv-loop μ-loop
-loop-again c =
-    let l = c .before .before .before .before .before .loop in
-    let t = is-digit (c .before) in (
-      search needs,
-      omega (arith, here (c .before)),
-      l .inv .2 ∙ runAt-on _ _ _ (search needs) t,
-      l .inv .3 ∙ valueAt-on _ _ _ (search needs) t,
-    )
-
-number-requires-2 : tie.Need-number-requires-2 Inv-loop μ-loop
-number-requires-2 c κs = search needs
-
-returns-3 : tie.Need-returns-3 Inv-loop μ-loop
-returns-3 c =
-    let l = c .before .before .loop in
-    c .number2 .ensures
-    ∙ digits-done _ _ _ _ (l .inv .2 ∙ runAt-end _ _ _ (search needs)) (l .inv .3 ∙ valueAt-end _ _ _ (search needs)) (l .inv .1)
+returns-3 : tie.Need-returns-3
+returns-3 c = search needs
 
 pub digits-spec : {M : Type 1} → statement M
 digits-spec =
     tie.close
     (tie.spec
-    Inv-loop
-    μ-loop
-    loop-holds
-    shared-slice-read-b
-    is-kind-requires
-    number-requires
+    byte-at-requires
+    is-digit-requires
     returns
-    sub-d
-    cast-d
-    sub-if2
-    returns-2
-    mul-n
-    add-n
     add-i
-    loop-less
-    loop-again
-    number-requires-2
+    byte-at-requires-2
+    is-digit-requires-2
+    sub-t9
+    cast-t10
+    returns-2
+    many-digits-requires
     returns-3)
