@@ -6,11 +6,11 @@ use Prim.Native.Nat.{ℕ, zero, suc, _+_, _*_, _-_, _^_, _/_, _<_, _≤_}
 use native.Mathlib.Omega.{arith}
 use native.Mathlib.Decide.{decLt}
 use lib.ListN.{length, drop, length-take}
-use lib.Seq.{getD-take, getD-drop}
 use lib.Pow.{pow-mono, pow-add, shl-shr, shr-shr, high}
 use Rattle.scan.specs.Scan.{byteAt, partOf}
 use Rattle.scan.specs.PartLaws.{part-length}
 use Rattle.aliases.specs.Number.{numberAt, Alike, Earlier}
+use Rattle.aliases.specs.RowsLaws.{part-byte}
 use Rattle.aliases.specs.Order.{orderOf}
 use Rattle.aliases.specs.OrderLaws.{orderAt, order-start, order-shorter, order-less, order-on}
 use Rattle.aliases.specs.declared.order.Order.{Order}
@@ -148,9 +148,6 @@ module _ (s : List ℕ) (bytes : (i : ℕ) → byteAt s i < 256) where
   number-more a b h e = alike-join s a b 8 8 16 (omega arith) h (number-same 8 (a + 8) (b + 8) 0 e)
 
 -- words ------------------------------------------------------------------------------------------------------------------------------------
-
-part-byte : (s : List ℕ) (a e i : ℕ) → i < e - a → byteAt (partOf s a e) i ≡ byteAt s (a + i)
-part-byte s a e i h = getD-take (e - a) _ i 0 h ∙ getD-drop a s i 0
 
 -- a word whose bytes come first comes first, however long it is
 pub earlier-order : (s : List ℕ) (a e b n : ℕ) → b + n ≤ length s → Earlier s a b n → orderOf (partOf s a e) (partOf s b (b + n)) ≡ Order.Less
