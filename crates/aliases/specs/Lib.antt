@@ -11,4 +11,5 @@ pub mod GoodLaws
 pub mod Add
 pub mod AddLaws
 pub mod TableLaws
+pub mod Quick
 pub mod QuickLaws

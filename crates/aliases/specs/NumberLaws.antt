@@ -58,22 +58,20 @@ module _ (s : List ℕ) (a b : ℕ) where
       let g : b ≡ b + 0 = omega arith in
       record { place = 0; inside = h; alike = λ q i. absurd (omega arith); less = rw (f, g) at e }
 
--- one byte more of a number -------------------------------------------------------------------------------------------------------------------
+-- eight bytes ----------------------------------------------------------------------------------------------------------------------------
 
-pub number-on : (x : ℕ) (s : List ℕ) (i k : ℕ) → k < 8 → numberAt x s (i + k) (8 - k) ≡ numberAt (x * 256 + byteAt s (i + k)) s (i + (k + 1)) (8 - (k + 1))
+-- eight bytes, each above those behind it
+pub number-eight : (s : List ℕ) (i : ℕ) →
+    byteAt s i * 2 ^ 56 + (byteAt s (i + 1) * 2 ^ 48 + (byteAt s (i + 2) * 2 ^ 40 + (byteAt s (i + 3) * 2 ^ 32 + (byteAt s (i + 4) * 2 ^ 24 + (byteAt s (i + 5) * 2 ^ 16 + (byteAt s (i + 6) * 2 ^ 8 + byteAt s (i + 7))))))) ≡ numberAt 0 s i 8
 unfolding numberAt
-number-on x s i k h =
-    let e : 8 - k ≡ suc (8 - (k + 1)) = omega arith in
-    let f : i + k + 1 ≡ i + (k + 1) = omega arith in
-    ap (numberAt x s (i + k)) e ∙ ap (λ (n : ℕ). numberAt (x * 256 + byteAt s (i + k)) s n (8 - (k + 1))) f
-
-pub number-fits : (x k : ℕ) → k < 8 → x < 2 ^ (8 * k) → x < 72057594037927936
-number-fits x k h e = omega (arith, pow-mono {i = 8 * k} {j = 56} (omega arith))
-
-pub number-grows : (x b k : ℕ) → b < 256 → x < 2 ^ (8 * k) → x * 256 + b < 2 ^ (8 * (k + 1))
-number-grows x b k h e =
-    let n : 8 * (k + 1) ≡ 8 * k + 8 = omega arith in
-    rw (n, pow-add 2 (8 * k) 8) (omega arith)
+number-eight s i =
+    let p2 : byteAt s (i + 1 + 1) ≡ byteAt s (i + 2) = ap (byteAt s) (omega arith) in
+    let p3 : byteAt s (i + 1 + 1 + 1) ≡ byteAt s (i + 3) = ap (byteAt s) (omega arith) in
+    let p4 : byteAt s (i + 1 + 1 + 1 + 1) ≡ byteAt s (i + 4) = ap (byteAt s) (omega arith) in
+    let p5 : byteAt s (i + 1 + 1 + 1 + 1 + 1) ≡ byteAt s (i + 5) = ap (byteAt s) (omega arith) in
+    let p6 : byteAt s (i + 1 + 1 + 1 + 1 + 1 + 1) ≡ byteAt s (i + 6) = ap (byteAt s) (omega arith) in
+    let p7 : byteAt s (i + 1 + 1 + 1 + 1 + 1 + 1 + 1) ≡ byteAt s (i + 7) = ap (byteAt s) (omega arith) in
+    omega arith
 
 -- numbers ----------------------------------------------------------------------------------------------------------------------------------
 

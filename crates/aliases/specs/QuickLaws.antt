@@ -12,30 +12,14 @@ use Rattle.scan.specs.Bytes.{isWord}
 use Rattle.scan.specs.Scan.{byteAt, partOf, runFrom, runAt}
 use Rattle.scan.specs.PartLaws.{part-length}
 use Rattle.aliases.specs.Rows.{rowsOf}
-use Rattle.aliases.specs.RowsLaws.{rowsAt, rows-start, rows-end, rows-step, rows-count}
-use Rattle.aliases.specs.Number.{Earlier}
+use Rattle.aliases.specs.RowsLaws.{rows-start, rows-end, rows-step, rows-count}
 use Rattle.aliases.specs.NumberLaws.{earlier-order}
 use Rattle.aliases.specs.Letters.{letterOf, lettersOf}
 use Rattle.aliases.specs.LettersLaws.{letter-low, letters-step, letters-end, letters-most, letters-part, letters-run}
 use Rattle.aliases.specs.Good.{isAlias, goodRow, goodFrom, goodArea}
-use Rattle.aliases.specs.GoodLaws.{goodAt, good-start, good-end, good-here}
+use Rattle.aliases.specs.GoodLaws.{good-start, good-end, good-here}
 use Rattle.aliases.specs.TableLaws.{row-good}
-
--- a row within its bounds: its word is as long as it says, its command is one, and it comes after the bytes at `from`
-pub record Bounded (s : List ℕ) (from i : ℕ) : Type 0 where
-  pub here : i + 2 + byteAt s i ≤ length s
-  pub some : 1 ≤ byteAt s i
-  pub few : byteAt s i ≤ 24
-  pub command : byteAt s (i + 1) ≤ 27
-  pub after : Earlier s from (i + 2) (byteAt s i)
-
--- k such rows, up to i, the last one's word at `from`: at most all bytes but two of each are letters, and where they are, the rows are good
-pub record Passed (s : List ℕ) (from i k : ℕ) : Type 0 where
-  pub inside : i ≤ length s
-  pub back : from ≤ i
-  pub most : lettersOf s + 2 * k ≤ i + lettersOf (drop i s)
-  pub good : lettersOf s + 2 * k ≡ i + lettersOf (drop i s) → goodFrom 0 [] s ≡ goodAt (partOf s from i) s i
-  pub count : length (rowsOf s) ≡ k + length (rowsAt s i)
+use Rattle.aliases.specs.Quick.{Bounded, Passed}
 
 pub passed-start : (s : List ℕ) → Passed s 0 0 0
 passed-start s =

@@ -4,6 +4,7 @@ use scan::part::part;
 use words::words::Named;
 use words::words::lookup;
 ghost use mathlib.Core.Path.{_≡_};
+ghost use mathlib.Core.Bool.{true};
 ghost use mathlib.Core.List.{List, _++_};
 ghost use Prim.Native.Nat.{ℕ, _+_, _<_, _≤_};
 ghost use lib.ListN.{length};
@@ -47,10 +48,21 @@ fn find_plainly(added: &[u8], w: &[u8]) -> Named
 
 // Whether a word is the one at `at`: its last byte first, since words that follow one another begin alike.
 fn stands_at(s: &[u8], at: usize, w: &[u8]) -> bool
-    requires { ⌜ at + length (now w) ≤ length (now s) ⌝ }
-    ensures { λ r. ⌜ r ≡ sameWord (now (w .entry)) (partOf (now (s .entry)) at (at + length (now (w .entry)))) ⌝ }
+    requires { ⌜ at ≤ length (now s) + 1 ⌝ }
+    ensures told { λ r. ⌜ (at + length (now (w .entry)) ≤ length (now (s .entry)) → r ≡ sameWord (now (w .entry)) (partOf (now (s .entry)) at (at + length (now (w .entry))))) ⌝ }
+    ensures there { λ r. ⌜ (r ≡ true → at + length (now (w .entry)) ≤ length (now (s .entry))) ⌝ }
 {
     let mut k = w.len();
+    if s.len() < at + k {
+        return false;
+    }
+    if k == 0 {
+        return true;
+    }
+    k -= 1;
+    if s[at + k] != w[k] {
+        return false;
+    }
     while 0 < k {
         k -= 1;
         if s[at + k] != w[k] {
@@ -87,14 +99,10 @@ pub fn find(added: &[u8], w: &[u8]) -> Named
             i = past(added, i, n);
             continue;
         }
-        let j = i + 2 + m;
-        if added.len() < j {
-            return find_plainly(added, w);
-        }
         if stands_at(added, i + 2, w) {
             return Named::Command(added[i + 1] as u64);
         }
-        i = j;
+        i = i + 2 + m;
     }
     if added.len() < i {
         return find_plainly(added, w);

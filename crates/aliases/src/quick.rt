@@ -3,11 +3,14 @@ use super::letters::letters;
 use super::number::eight;
 ghost use mathlib.Core.Path.{_≡_};
 ghost use mathlib.Core.Bool.{true};
-ghost use Prim.Native.Nat.{_+_, _*_, _<_, _≤_};
+ghost use Prim.Native.Nat.{_+_, _≤_};
 ghost use lib.ListN.{length};
-ghost use Rattle.aliases.specs.Number.{Alike, Earlier};
-ghost use Rattle.aliases.specs.Letters.{lettersOf};
+ghost use Rattle.aliases.specs.Number.{numberAt, Alike, Earlier};
 ghost use Rattle.aliases.specs.Good.{goodArea};
+ghost use Rattle.aliases.specs.Quick.{Passed, Counted};
+
+// How many bytes the longest row has.
+const ROW: usize = 26;
 
 // True only where the n bytes from `from` on come before those from `at` on: byte by byte.
 fn bytes_after(s: &[u8], from: usize, at: usize, n: usize) -> bool
@@ -48,19 +51,16 @@ fn rest_after(s: &[u8], from: usize, at: usize, n: usize) -> bool
     eight(s, from + e) < eight(s, at + e)
 }
 
-// The same of 1 to 24 bytes: by eights, as far as eight bytes are there.
-fn row_after(s: &[u8], from: usize, at: usize, n: usize) -> bool
+// The same of 1 to 24 bytes: x is the eight bytes from `from` on, y those from `at` on.
+fn word_after(s: &[u8], from: usize, x: u64, at: usize, y: u64, n: usize) -> bool
     requires { ⌜ from ≤ at ⌝ }
     requires { ⌜ at + n ≤ length (now s) ⌝ }
     requires { ⌜ 1 ≤ n ⌝ }
     requires { ⌜ n ≤ 24 ⌝ }
+    requires { ⌜ x ≡ numberAt 0 (now s) from 8 ⌝ }
+    requires { ⌜ y ≡ numberAt 0 (now s) at 8 ⌝ }
     ensures { λ r. ⌜ (r ≡ true → Earlier (now (s .entry)) from at n) ⌝ }
 {
-    if s.len() - at < 8 {
-        return bytes_after(s, from, at, n);
-    }
-    let x = eight(s, from);
-    let y = eight(s, at);
     if n < 8 {
         let h = 64 - 8 * n;
         return x >> h < y >> h;
@@ -71,13 +71,14 @@ fn row_after(s: &[u8], from: usize, at: usize, n: usize) -> bool
     rest_after(s, from, at, n)
 }
 
-// How many rows there are, where each is within its bounds and after the one before it; else 33.
-fn rows(s: &[u8]) -> usize
-    ensures { λ r. ⌜ (r ≤ 32 → lettersOf (now (s .entry)) + 2 * r ≡ length (now (s .entry)) → goodArea (now (s .entry)) ≡ true) ⌝ }
+// How many rows there are, where each is within its bounds and after the one before it; else 33. From `at` on, where some are passed.
+fn last_rows(s: &[u8], at: usize, word: usize, passed: usize) -> usize
+    requires { ⌜ Passed (now s) word at passed ⌝ }
+    ensures { λ r. ⌜ Counted (now (s .entry)) r ⌝ }
 {
-    let mut i: usize = 0;
-    let mut from: usize = 0;
-    let mut k: usize = 0;
+    let mut i = at;
+    let mut from = word;
+    let mut k = passed;
     while i < s.len() {
         let n = s[i] as usize;
         let j = i + 2 + n;
@@ -93,7 +94,7 @@ fn rows(s: &[u8]) -> usize
         if 27 < s[i + 1] {
             return 33;
         }
-        if !row_after(s, from, i + 2, n) {
+        if !bytes_after(s, from, i + 2, n) {
             return 33;
         }
         k += 1;
@@ -101,6 +102,41 @@ fn rows(s: &[u8]) -> usize
         i = j;
     }
     k
+}
+
+// The same of all rows: by eights, as far as the longest row would be there.
+fn rows(s: &[u8]) -> usize
+    ensures { λ r. ⌜ Counted (now (s .entry)) r ⌝ }
+{
+    if s.len() < ROW {
+        return last_rows(s, 0, 0, 0);
+    }
+    let stop = s.len() - ROW;
+    let mut i: usize = 0;
+    let mut from: usize = 0;
+    let mut k: usize = 0;
+    let mut x = eight(s, 0);
+    while i <= stop {
+        let n = s[i] as usize;
+        if n == 0 {
+            return 33;
+        }
+        if 24 < n {
+            return 33;
+        }
+        if 27 < s[i + 1] {
+            return 33;
+        }
+        let y = eight(s, i + 2);
+        if !word_after(s, from, x, i + 2, y, n) {
+            return 33;
+        }
+        x = y;
+        k += 1;
+        from = i + 2;
+        i = i + 2 + n;
+    }
+    last_rows(s, i, from, k)
 }
 
 // True only for aliases of a session: all bytes but two of each row are letters.

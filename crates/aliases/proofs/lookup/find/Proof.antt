@@ -38,60 +38,55 @@ loop-again c =
     let a = c .before .before .before .before .before .before .before .args in
     λ h. c .before .before .before .before .loop .inv (omega arith) ∙ c .past .ensures .1 h (a .w .now) (λ e. c .before .if1 .taken (sym e))
 
-add-j : tie.Need-add-j Inv-loop μ-loop
-add-j c = search needs
-
-add-j-2 : tie.Need-add-j-2 Inv-loop μ-loop
-add-j-2 c = search needs
-
-find-plainly-requires : tie.Need-find-plainly-requires Inv-loop μ-loop
-find-plainly-requires c κs = search needs
-
-returns : tie.Need-returns Inv-loop μ-loop
-returns c = c .find-plainly .ensures
-
 add-stands-at : tie.Need-add-stands-at Inv-loop μ-loop
 add-stands-at c = search needs
 
 stands-at-requires : tie.Need-stands-at-requires Inv-loop μ-loop
 stands-at-requires c κs = search needs
 
-add-t12 : tie.Need-add-t12 Inv-loop μ-loop
-add-t12 c = search needs
+add-t11 : tie.Need-add-t11 Inv-loop μ-loop
+add-t11 c = search needs
 
-shared-slice-read-t14 : tie.Need-shared-slice-read-t14 Inv-loop μ-loop
-shared-slice-read-t14 c = search needs
+shared-slice-read-t13 : tie.Need-shared-slice-read-t13 Inv-loop μ-loop
+shared-slice-read-t13 c = omega (arith, c .before .before .stands-at .ensures .1 (c .before .if2 .taken))
 
-cast-t15 : tie.Need-cast-t15 Inv-loop μ-loop
-cast-t15 c = omega (arith, c .shared-slice-known4 .given (c .before .before .before .before .before .before .before .loop .i + 1))
+cast-t14 : tie.Need-cast-t14 Inv-loop μ-loop
+cast-t14 c = omega (arith, c .shared-slice-known4 .given (c .before .before .before .before .before .before .loop .i + 1))
 
-returns-2 : tie.Need-returns-2 Inv-loop μ-loop
-returns-2 c =
-    let a = c .before .before .before .before .before .before .before .before .before .before .args in
-    let l = c .before .before .before .before .before .before .before .loop in
-    let n = c .before .before .before .before .if1 .left in
-    let e = ap (λ (k : ℕ). sameWord (a .w .now) (partOf (a .added .now) (l .i + 2) (l .i + 2 + k))) n ∙ sym (c .before .before .stands-at .ensures) ∙ c .before .if3 .taken in
+returns : tie.Need-returns Inv-loop μ-loop
+returns c =
+    let a = c .before .before .before .before .before .before .before .before .before .args in
+    let l = c .before .before .before .before .before .before .loop in
+    let n = c .before .before .before .if1 .left in
+    let e = ap (λ (k : ℕ). sameWord (a .w .now) (partOf (a .added .now) (l .i + 2) (l .i + 2 + k))) n ∙ sym (c .before .before .stands-at .ensures .0 (c .before .before .stands-at .ensures .1 (c .before .if2 .taken))) ∙ c .before .if2 .taken in
     sym (l .inv (omega arith) ∙ find-here (a .added .now) (a .w .now) (l .i) (omega arith) e)
+
+add-i : tie.Need-add-i Inv-loop μ-loop
+add-i c = search needs
+
+add-i-2 : tie.Need-add-i-2 Inv-loop μ-loop
+add-i-2 c = search needs
 
 loop-less-2 : tie.Need-loop-less-2 Inv-loop μ-loop
 loop-less-2 c = search needs
 
 loop-again-2 : tie.Need-loop-again-2 Inv-loop μ-loop
 loop-again-2 c =
-    let a = c .before .before .before .before .before .before .before .before .before .args in
-    let l = c .before .before .before .before .before .before .loop in
-    let n = c .before .before .before .if1 .left in
-    let e = ap (λ (k : ℕ). sameWord (a .w .now) (partOf (a .added .now) (l .i + 2) (l .i + 2 + k))) n ∙ sym (c .before .stands-at .ensures) ∙ c .if3 .left in
-    λ h. l .inv (omega arith) ∙ find-past (a .added .now) (a .w .now) (l .i) (omega arith) e ∙ ap (λ (k : ℕ). lookupIn (rowsAt (a .added .now) (l .i + 2 + k)) (a .w .now)) n
+    λ h.
+    let a = c .before .before .before .before .before .before .before .before .args in
+    let l = c .before .before .before .before .before .loop in
+    let n = c .before .before .if1 .left in
+    let e = ap (λ (k : ℕ). sameWord (a .w .now) (partOf (a .added .now) (l .i + 2) (l .i + 2 + k))) n ∙ sym (c .before .stands-at .ensures .0 h) ∙ c .if2 .left in
+    l .inv (omega arith) ∙ find-past (a .added .now) (a .w .now) (l .i) (omega arith) e ∙ ap (λ (k : ℕ). lookupIn (rowsAt (a .added .now) (l .i + 2 + k)) (a .w .now)) n
 
-find-plainly-requires-2 : tie.Need-find-plainly-requires-2 Inv-loop μ-loop
-find-plainly-requires-2 c κs = search needs
+find-plainly-requires : tie.Need-find-plainly-requires Inv-loop μ-loop
+find-plainly-requires c κs = search needs
+
+returns-2 : tie.Need-returns-2 Inv-loop μ-loop
+returns-2 c = c .find-plainly .ensures
 
 returns-3 : tie.Need-returns-3 Inv-loop μ-loop
-returns-3 c = c .find-plainly2 .ensures
-
-returns-4 : tie.Need-returns-4 Inv-loop μ-loop
-returns-4 c = sym (c .before .before .loop .inv (omega arith) ∙ find-end _ _ _ (omega arith))
+returns-3 c = sym (c .before .before .loop .inv (omega arith) ∙ find-end _ _ _ (omega arith))
 
 pub find-spec : {M : Type 1} → statement M
 find-spec =
@@ -105,18 +100,16 @@ find-spec =
     past-requires
     loop-less
     loop-again
-    add-j
-    add-j-2
-    find-plainly-requires
-    returns
     add-stands-at
     stands-at-requires
-    add-t12
-    shared-slice-read-t14
-    cast-t15
-    returns-2
+    add-t11
+    shared-slice-read-t13
+    cast-t14
+    returns
+    add-i
+    add-i-2
     loop-less-2
     loop-again-2
-    find-plainly-requires-2
-    returns-3
-    returns-4)
+    find-plainly-requires
+    returns-2
+    returns-3)

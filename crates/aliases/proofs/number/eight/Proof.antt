@@ -1,67 +1,109 @@
--- `number::eight` meets its contract. The invariant: the number is x and the bytes from `at + k` on.
+-- `number::eight` meets its contract.
 -- Assumes nothing.
-use mathlib.Core.Path.{_≡_, refl, sym, _∙_, ap}
 use native.Mathlib.Omega.{arith}
-use Prim.Native.Nat.{ℕ, _+_, _-_, _*_, _^_, _<_, _≤_}
-use lib.ListN.{getD}
-use Rattle.aliases.specs.Number.{numberAt}
-use Rattle.aliases.specs.NumberLaws.{number-on, number-fits, number-grows}
+use Prim.Native.Nat.{_+_}
+use Rattle.aliases.specs.NumberLaws.{number-eight}
 use borrow.Author.Needs.{needs}
 use Rattle.aliases.proofs.number.eight.Statement.{statement}
 use Rattle.aliases.proofs.number.eight.Tie as tie
 
-abbrev Inv-loop : tie.InvT-loop
-Inv-loop s at x₀ k₀ x k = (k ≤ 8) × (x < 2 ^ (8 * k)) × (numberAt 0 s at 8 ≡ numberAt x s (at + k) (8 - k))
+add-above : tie.Need-add-above
+add-above c = search needs
 
-abbrev μ-loop : tie.MeasureT-loop
-μ-loop s at x₀ k₀ x k = 8 - k
+shared-slice-read-above : tie.Need-shared-slice-read-above
+shared-slice-read-above c = search needs
 
-loop-holds : tie.Need-loop-holds Inv-loop μ-loop
-loop-holds c = let e : c .before .args .at ≡ c .before .args .at + 0 = omega arith in (omega arith, omega arith, ap (λ (k : ℕ). numberAt 0 (c .before .args .s .now) k 8) e)
+add-above-2 : tie.Need-add-above-2
+add-above-2 c = search needs
 
-add-join : tie.Need-add-join Inv-loop μ-loop
-add-join c = omega arith
+shared-slice-read-above-2 : tie.Need-shared-slice-read-above-2
+shared-slice-read-above-2 c = search needs
 
-shared-slice-read-join : tie.Need-shared-slice-read-join Inv-loop μ-loop
-shared-slice-read-join c = search needs
+cast-above : tie.Need-cast-above
+cast-above c = omega (arith, c .before .before .shared-slice-known .given (c .before .before .before .args .at + 7))
 
-join-requires : tie.Need-join-requires Inv-loop μ-loop
-join-requires c κs = number-fits _ (c .before .before .loop .k) (omega arith) (c .before .before .loop .inv .1)
+above-requires : tie.Need-above-requires
+above-requires c κs = (omega arith, omega (arith, c .before .before .shared-slice-known .given (c .before .before .before .args .at + 7)))
 
-add-k : tie.Need-add-k Inv-loop μ-loop
-add-k c = search needs
+add-above-3 : tie.Need-add-above-3
+add-above-3 c = search needs
 
-loop-less : tie.Need-loop-less Inv-loop μ-loop
-loop-less c = search needs
+shared-slice-read-above-3 : tie.Need-shared-slice-read-above-3
+shared-slice-read-above-3 c = search needs
 
-loop-again : tie.Need-loop-again Inv-loop μ-loop
-loop-again c =
-    let a = c .before .before .before .before .before .args in
-    let l = c .before .before .before .loop in (
-      omega arith,
-      rw (c .join .ensures) (number-grows (l .x) (getD (a .s .now) (a .at + l .k) 0) (l .k) (omega (arith, c .before .shared-slice-known2 .given (a .at + l .k))) (l .inv .1)),
-      rw (c .join .ensures) (l .inv .2 ∙ number-on (l .x) (a .s .now) (a .at) (l .k) (omega arith)),
-    )
+add-above-4 : tie.Need-add-above-4
+add-above-4 c = search needs
 
-returns : tie.Need-returns Inv-loop μ-loop
-unfolding numberAt
-returns c =
-    let a = c .before .before .before .args in
-    let l = c .before .loop in
-    let e : 8 - l .k ≡ 0 = omega (arith, l .inv .0) in
-    sym (l .inv .2 ∙ ap (numberAt (l .x) (a .s .now) (a .at + l .k)) e)
+shared-slice-read-above-4 : tie.Need-shared-slice-read-above-4
+shared-slice-read-above-4 c = search needs
+
+above-requires-2 : tie.Need-above-requires-2
+above-requires-2 c κs = (omega arith, omega (arith, c .before .before .above .ensures, c .before .before .before .before .before .shared-slice-known .given (c .before .before .before .before .before .before .args .at + 6), c .before .before .before .before .before .shared-slice-known .given (c .before .before .before .before .before .before .args .at + 7)))
+
+above-requires-3 : tie.Need-above-requires-3
+above-requires-3 c κs = (omega arith, omega (arith, c .before .before .before .above .ensures, c .above2 .ensures, c .before .before .before .before .before .before .shared-slice-known .given (c .before .before .before .before .before .before .before .args .at + 5), c .before .before .before .before .before .before .shared-slice-known .given (c .before .before .before .before .before .before .before .args .at + 6), c .before .before .before .before .before .before .shared-slice-known .given (c .before .before .before .before .before .before .before .args .at + 7)))
+
+add-above-5 : tie.Need-add-above-5
+add-above-5 c = search needs
+
+shared-slice-read-above-5 : tie.Need-shared-slice-read-above-5
+shared-slice-read-above-5 c = search needs
+
+add-above-6 : tie.Need-add-above-6
+add-above-6 c = search needs
+
+shared-slice-read-above-6 : tie.Need-shared-slice-read-above-6
+shared-slice-read-above-6 c = search needs
+
+above-requires-4 : tie.Need-above-requires-4
+above-requires-4 c κs = (omega arith, omega (arith, c .before .before .before .before .before .before .above .ensures, c .before .before .before .above2 .ensures, c .before .before .above3 .ensures, c .before .before .before .before .before .before .before .before .before .shared-slice-known .given (c .before .before .before .before .before .before .before .before .before .before .args .at + 4), c .before .before .before .before .before .before .before .before .before .shared-slice-known .given (c .before .before .before .before .before .before .before .before .before .before .args .at + 5), c .before .before .before .before .before .before .before .before .before .shared-slice-known .given (c .before .before .before .before .before .before .before .before .before .before .args .at + 6), c .before .before .before .before .before .before .before .before .before .shared-slice-known .given (c .before .before .before .before .before .before .before .before .before .before .args .at + 7)))
+
+above-requires-5 : tie.Need-above-requires-5
+above-requires-5 c κs = (omega arith, omega (arith, c .before .before .before .before .before .before .before .above .ensures, c .before .before .before .before .above2 .ensures, c .before .before .before .above3 .ensures, c .above4 .ensures, c .before .before .before .before .before .before .before .before .before .before .shared-slice-known .given (c .before .before .before .before .before .before .before .before .before .before .before .args .at + 3), c .before .before .before .before .before .before .before .before .before .before .shared-slice-known .given (c .before .before .before .before .before .before .before .before .before .before .before .args .at + 4), c .before .before .before .before .before .before .before .before .before .before .shared-slice-known .given (c .before .before .before .before .before .before .before .before .before .before .before .args .at + 5), c .before .before .before .before .before .before .before .before .before .before .shared-slice-known .given (c .before .before .before .before .before .before .before .before .before .before .before .args .at + 6), c .before .before .before .before .before .before .before .before .before .before .shared-slice-known .given (c .before .before .before .before .before .before .before .before .before .before .before .args .at + 7)))
+
+shared-slice-read-above-7 : tie.Need-shared-slice-read-above-7
+shared-slice-read-above-7 c = search needs
+
+add-above-7 : tie.Need-add-above-7
+add-above-7 c = search needs
+
+shared-slice-read-above-8 : tie.Need-shared-slice-read-above-8
+shared-slice-read-above-8 c = search needs
+
+above-requires-6 : tie.Need-above-requires-6
+above-requires-6 c κs = (omega arith, omega (arith, c .before .before .before .before .before .before .before .before .before .before .above .ensures, c .before .before .before .before .before .before .before .above2 .ensures, c .before .before .before .before .before .before .above3 .ensures, c .before .before .before .above4 .ensures, c .before .before .above5 .ensures, c .before .before .before .before .before .before .before .before .before .before .before .before .before .shared-slice-known .given (c .before .before .before .before .before .before .before .before .before .before .before .before .before .before .args .at + 2), c .before .before .before .before .before .before .before .before .before .before .before .before .before .shared-slice-known .given (c .before .before .before .before .before .before .before .before .before .before .before .before .before .before .args .at + 3), c .before .before .before .before .before .before .before .before .before .before .before .before .before .shared-slice-known .given (c .before .before .before .before .before .before .before .before .before .before .before .before .before .before .args .at + 4), c .before .before .before .before .before .before .before .before .before .before .before .before .before .shared-slice-known .given (c .before .before .before .before .before .before .before .before .before .before .before .before .before .before .args .at + 5), c .before .before .before .before .before .before .before .before .before .before .before .before .before .shared-slice-known .given (c .before .before .before .before .before .before .before .before .before .before .before .before .before .before .args .at + 6), c .before .before .before .before .before .before .before .before .before .before .before .before .before .shared-slice-known .given (c .before .before .before .before .before .before .before .before .before .before .before .before .before .before .args .at + 7)))
+
+above-requires-7 : tie.Need-above-requires-7
+above-requires-7 c κs = (omega arith, omega (arith, c .before .before .before .before .before .before .before .before .before .before .before .above .ensures, c .before .before .before .before .before .before .before .before .above2 .ensures, c .before .before .before .before .before .before .before .above3 .ensures, c .before .before .before .before .above4 .ensures, c .before .before .before .above5 .ensures, c .above6 .ensures, c .before .before .before .before .before .before .before .before .before .before .before .before .before .before .shared-slice-known .given (c .before .before .before .before .before .before .before .before .before .before .before .before .before .before .before .args .at + 1), c .before .before .before .before .before .before .before .before .before .before .before .before .before .before .shared-slice-known .given (c .before .before .before .before .before .before .before .before .before .before .before .before .before .before .before .args .at + 2), c .before .before .before .before .before .before .before .before .before .before .before .before .before .before .shared-slice-known .given (c .before .before .before .before .before .before .before .before .before .before .before .before .before .before .before .args .at + 3), c .before .before .before .before .before .before .before .before .before .before .before .before .before .before .shared-slice-known .given (c .before .before .before .before .before .before .before .before .before .before .before .before .before .before .before .args .at + 4), c .before .before .before .before .before .before .before .before .before .before .before .before .before .before .shared-slice-known .given (c .before .before .before .before .before .before .before .before .before .before .before .before .before .before .before .args .at + 5), c .before .before .before .before .before .before .before .before .before .before .before .before .before .before .shared-slice-known .given (c .before .before .before .before .before .before .before .before .before .before .before .before .before .before .before .args .at + 6), c .before .before .before .before .before .before .before .before .before .before .before .before .before .before .shared-slice-known .given (c .before .before .before .before .before .before .before .before .before .before .before .before .before .before .before .args .at + 7)))
+
+returns : tie.Need-returns
+returns c = omega (arith, c .before .before .before .before .before .before .before .before .before .before .before .before .above .ensures, c .before .before .before .before .before .before .before .before .before .above2 .ensures, c .before .before .before .before .before .before .before .before .above3 .ensures, c .before .before .before .before .before .above4 .ensures, c .before .before .before .before .above5 .ensures, c .before .above6 .ensures, c .above7 .ensures, number-eight (c .before .before .before .before .before .before .before .before .before .before .before .before .before .before .before .before .args .s .now) (c .before .before .before .before .before .before .before .before .before .before .before .before .before .before .before .before .args .at))
 
 pub eight-spec : {M : Type 1} → statement M
 eight-spec =
     tie.close
     (tie.spec
-    Inv-loop
-    μ-loop
-    loop-holds
-    add-join
-    shared-slice-read-join
-    join-requires
-    add-k
-    loop-less
-    loop-again
+    add-above
+    shared-slice-read-above
+    add-above-2
+    shared-slice-read-above-2
+    cast-above
+    above-requires
+    add-above-3
+    shared-slice-read-above-3
+    add-above-4
+    shared-slice-read-above-4
+    above-requires-2
+    above-requires-3
+    add-above-5
+    shared-slice-read-above-5
+    add-above-6
+    shared-slice-read-above-6
+    above-requires-4
+    above-requires-5
+    shared-slice-read-above-7
+    add-above-7
+    shared-slice-read-above-8
+    above-requires-6
+    above-requires-7
     returns)

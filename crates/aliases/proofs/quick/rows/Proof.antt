@@ -1,37 +1,42 @@
--- `quick::rows` meets its contract. The invariant: k rows are passed, up to i.
+-- `quick::rows` meets its contract. The invariant: k rows are passed, up to i; x is the eight bytes of the last word.
 -- Assumes nothing.
+use mathlib.Core.Path.{_≡_}
 use native.Mathlib.Omega.{arith}
-use Prim.Native.Nat.{_-_}
-use lib.ListN.{length}
+use Prim.Native.Nat.{_+_, _-_}
 use borrow.Author.Tests.{not-false}
-use Rattle.aliases.specs.QuickLaws.{Passed, passed-start, passed-on, passed-few, passed-end}
+use Rattle.aliases.specs.Number.{numberAt}
+use Rattle.aliases.specs.Quick.{Passed}
+use Rattle.aliases.specs.QuickLaws.{passed-start, passed-on, passed-few}
 use borrow.Author.Needs.{needs}
 use Rattle.aliases.proofs.quick.rows.Statement.{statement}
 use Rattle.aliases.proofs.quick.rows.Tie as tie
 
 abbrev Inv-loop : tie.InvT-loop
-Inv-loop s i₀ from₀ k₀ i from k = Passed s from i k
+Inv-loop s stop i₀ from₀ k₀ x₀ i from k x = Passed s from i k × (x ≡ numberAt 0 s from 8)
 
 abbrev μ-loop : tie.MeasureT-loop
-μ-loop s i₀ from₀ k₀ i from k = length s - i
+μ-loop s stop i₀ from₀ k₀ x₀ i from k x = stop + 1 - i
+
+last-rows-requires : tie.Need-last-rows-requires Inv-loop μ-loop
+last-rows-requires c κs = passed-start _
+
+returns : tie.Need-returns Inv-loop μ-loop
+returns c = c .last-rows .ensures
+
+sub-stop : tie.Need-sub-stop Inv-loop μ-loop
+sub-stop c = search needs
+
+eight-requires : tie.Need-eight-requires Inv-loop μ-loop
+eight-requires c κs = search needs
 
 loop-holds : tie.Need-loop-holds Inv-loop μ-loop
-loop-holds c = passed-start _
+loop-holds c = (passed-start _, c .eight .ensures)
 
 shared-slice-read-n : tie.Need-shared-slice-read-n Inv-loop μ-loop
 shared-slice-read-n c = search needs
 
 cast-n : tie.Need-cast-n Inv-loop μ-loop
 cast-n c = omega (arith, c .shared-slice-known2 .given (c .before .before .loop .i))
-
-add-j : tie.Need-add-j Inv-loop μ-loop
-add-j c = search needs
-
-add-j-2 : tie.Need-add-j-2 Inv-loop μ-loop
-add-j-2 c = omega (arith, c .shared-slice-known2 .given (c .before .before .loop .i))
-
-returns : tie.Need-returns Inv-loop μ-loop
-returns c = λ h e. absurd (omega arith)
 
 returns-2 : tie.Need-returns-2 Inv-loop μ-loop
 returns-2 c = λ h e. absurd (omega arith)
@@ -48,32 +53,50 @@ shared-slice-read-if4 c = search needs
 returns-4 : tie.Need-returns-4 Inv-loop μ-loop
 returns-4 c = λ h e. absurd (omega arith)
 
-add-row-after : tie.Need-add-row-after Inv-loop μ-loop
-add-row-after c = search needs
+add-eight : tie.Need-add-eight Inv-loop μ-loop
+add-eight c = search needs
 
-row-after-requires : tie.Need-row-after-requires Inv-loop μ-loop
-row-after-requires c κs = (omega (arith, c .before .before .before .before .before .before .before .loop .inv .back), (omega arith, (omega arith, omega arith)))
+eight-requires-2 : tie.Need-eight-requires-2 Inv-loop μ-loop
+eight-requires-2 c κs = omega arith
+
+add-word-after : tie.Need-add-word-after Inv-loop μ-loop
+add-word-after c = search needs
+
+word-after-requires : tie.Need-word-after-requires Inv-loop μ-loop
+word-after-requires c κs =
+    let l = c .before .before .before .before .before .before .before .loop in
+    (omega (arith, l .inv .0 .back), (omega arith, (omega arith, (omega arith, (l .inv .1, c .eight2 .ensures)))))
 
 returns-5 : tie.Need-returns-5 Inv-loop μ-loop
 returns-5 c = λ h e. absurd (omega arith)
 
 add-k : tie.Need-add-k Inv-loop μ-loop
-add-k c = omega (arith, passed-few (c .before .before .before .before .before .before .before .before .before .loop .inv))
+add-k c = omega (arith, passed-few (c .before .before .before .before .before .before .before .before .before .loop .inv .0))
 
 add-from : tie.Need-add-from Inv-loop μ-loop
 add-from c = search needs
+
+add-i : tie.Need-add-i Inv-loop μ-loop
+add-i c = search needs
+
+add-i-2 : tie.Need-add-i-2 Inv-loop μ-loop
+add-i-2 c = omega arith
 
 loop-less : tie.Need-loop-less Inv-loop μ-loop
 loop-less c = search needs
 
 loop-again : tie.Need-loop-again Inv-loop μ-loop
 loop-again c =
-    let a = c .before .before .before .before .before .before .before .before .before .before .before .args in
-    let l = c .before .before .before .before .before .before .before .before .before .loop in
-    passed-on (a .s .now) (l .from) (l .i) (l .k) (l .inv) record { here = omega arith; some = omega arith; few = omega arith; command = omega arith; after = c .before .row-after .ensures (not-false _ (c .if5 .left)) }
+    let l = c .before .before .before .before .before .before .before .before .before .loop in (
+      passed-on (c .before .before .before .before .before .before .before .before .before .before .before .before .before .args .s .now) (l .from) (l .i) (l .k) (l .inv .0) record { here = omega arith; some = omega arith; few = omega arith; command = omega arith; after = c .before .word-after .ensures (not-false _ (c .if5 .left)) },
+      c .before .before .eight2 .ensures,
+    )
+
+last-rows-requires-2 : tie.Need-last-rows-requires-2 Inv-loop μ-loop
+last-rows-requires-2 c κs = c .before .loop .inv .0
 
 returns-6 : tie.Need-returns-6 Inv-loop μ-loop
-returns-6 c = λ h e. passed-end (c .before .loop .inv) (c .loop-test .left) h e
+returns-6 c = c .last-rows2 .ensures
 
 pub rows-spec : {M : Type 1} → statement M
 rows-spec =
@@ -81,22 +104,28 @@ rows-spec =
     (tie.spec
     Inv-loop
     μ-loop
+    last-rows-requires
+    returns
+    sub-stop
+    eight-requires
     loop-holds
     shared-slice-read-n
     cast-n
-    add-j
-    add-j-2
-    returns
     returns-2
     returns-3
     add-if4
     shared-slice-read-if4
     returns-4
-    add-row-after
-    row-after-requires
+    add-eight
+    eight-requires-2
+    add-word-after
+    word-after-requires
     returns-5
     add-k
     add-from
+    add-i
+    add-i-2
     loop-less
     loop-again
+    last-rows-requires-2
     returns-6)
