@@ -5,6 +5,7 @@ use mathlib.Core.Bool.{true}
 use mathlib.Core.List.{List, []}
 use Prim.Native.Nat.{ℕ, zero, suc, _+_, _*_, _-_, _<_, _≤_}
 use native.Mathlib.Omega.{arith}
+use native.Mathlib.Decide.{decLt}
 use lib.ListN.{length, drop}
 use lib.Dec.{eqb, leb}
 use borrow.Author.Tests.{eq-eqb, le-leb}
@@ -13,6 +14,7 @@ use Rattle.scan.specs.Scan.{byteAt, partOf, runFrom, runAt}
 use Rattle.scan.specs.PartLaws.{part-length}
 use Rattle.aliases.specs.Rows.{rowsOf}
 use Rattle.aliases.specs.RowsLaws.{rows-start, rows-end, rows-step, rows-count}
+use Rattle.aliases.specs.Number.{Earlier}
 use Rattle.aliases.specs.NumberLaws.{earlier-order}
 use Rattle.aliases.specs.Letters.{letterOf, lettersOf}
 use Rattle.aliases.specs.LettersLaws.{letter-low, letters-step, letters-end, letters-most, letters-part, letters-run}
@@ -77,6 +79,20 @@ module _ (s : List ℕ) (from i k : ℕ) (p : Passed s from i k) (b : Bounded s 
             p .good f ∙ good-here _ s i (omega (arith, b .here)) (its-good e);
         count = omega (arith, p .count, ap length (rows-step s i (omega (arith, b .here))));
       }
+
+-- the same of a row that is known to be n bytes long
+pub passed-as : (s : List ℕ) (from i k n : ℕ) → Passed s from i k → byteAt s i ≡ n → i + 2 + n ≤ length s → 1 ≤ n → n ≤ 24 → byteAt s (i + 1) ≤ 27 → Earlier s from (i + 2) n → Passed s (i + 2) (i + 2 + n) (k + 1)
+passed-as s from i k n p e h l m c a =
+    let b : Bounded s from i = record { here = omega arith; some = omega arith; few = omega arith; command = c; after = rw e a } in
+    rw (sym e) (passed-on s from i k p b)
+
+-- a place whose byte is another one is a later one
+pub moved : (s : List ℕ) (i j : ℕ) → i ≤ j → (byteAt s j ≡ byteAt s i → ⊥) → i < j
+moved s i j h e = go (decLt i j)
+  where
+    go : Dec (i < j) → i < j
+    go (yes p) = p
+    go (no p) = let q : j ≡ i = omega arith in absurd (e (ap (byteAt s) q))
 
 -- no more rows than bytes
 pub passed-few : {s : List ℕ} {from i k : ℕ} → Passed s from i k → k ≤ length s

@@ -9,9 +9,6 @@ ghost use Rattle.aliases.specs.Number.{numberAt, Alike, Earlier};
 ghost use Rattle.aliases.specs.Good.{goodArea};
 ghost use Rattle.aliases.specs.Quick.{Passed, Counted};
 
-// How many bytes the longest row has.
-const ROW: usize = 26;
-
 // True only where the n bytes from `from` on come before those from `at` on: byte by byte.
 fn bytes_after(s: &[u8], from: usize, at: usize, n: usize) -> bool
     requires { ⌜ from ≤ at ⌝ }
@@ -104,19 +101,27 @@ fn last_rows(s: &[u8], at: usize, word: usize, passed: usize) -> usize
     k
 }
 
-// The same of all rows: by eights, as far as the longest row would be there.
+// How many bytes a row of n bytes is looked at by: its own, and eight of its word.
+fn room(n: usize) -> usize
+    requires { ⌜ n ≤ 24 ⌝ }
+    ensures eight { λ r. ⌜ 10 ≤ r ⌝ }
+    ensures row { λ r. ⌜ n + 2 ≤ r ⌝ }
+{
+    if n < 8 { 10 } else { n + 2 }
+}
+
+// The same of all rows: by eights, as far as they are there. Those of one length are passed without waiting for the length of each.
 fn rows(s: &[u8]) -> usize
     ensures { λ r. ⌜ Counted (now (s .entry)) r ⌝ }
 {
-    if s.len() < ROW {
+    if s.len() < 10 {
         return last_rows(s, 0, 0, 0);
     }
-    let stop = s.len() - ROW;
     let mut i: usize = 0;
     let mut from: usize = 0;
     let mut k: usize = 0;
     let mut x = eight(s, 0);
-    while i <= stop {
+    while 10 <= s.len() - i {
         let n = s[i] as usize;
         if n == 0 {
             return 33;
@@ -124,17 +129,24 @@ fn rows(s: &[u8]) -> usize
         if 24 < n {
             return 33;
         }
-        if 27 < s[i + 1] {
+        let r = room(n);
+        if s.len() - i < r {
             return 33;
         }
-        let y = eight(s, i + 2);
-        if !word_after(s, from, x, i + 2, y, n) {
-            return 33;
+        let stop = s.len() - r;
+        while i <= stop && s[i] as usize == n {
+            if 27 < s[i + 1] {
+                return 33;
+            }
+            let y = eight(s, i + 2);
+            if !word_after(s, from, x, i + 2, y, n) {
+                return 33;
+            }
+            x = y;
+            k += 1;
+            from = i + 2;
+            i = i + 2 + n;
         }
-        x = y;
-        k += 1;
-        from = i + 2;
-        i = i + 2 + n;
     }
     last_rows(s, i, from, k)
 }
