@@ -2,8 +2,14 @@ pub mod Rows
 pub mod RowsLaws
 pub mod Order
 pub mod OrderLaws
+pub mod Number
+pub mod NumberLaws
+pub mod Letters
+pub mod LettersLaws
 pub mod Good
 pub mod GoodLaws
 pub mod Add
 pub mod AddLaws
 pub mod TableLaws
+pub mod Quick
+pub mod QuickLaws

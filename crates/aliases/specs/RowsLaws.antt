@@ -1,16 +1,18 @@
 -- Laws of rows in bytes, over positions, and of lookup in two tables one after the other.
 -- Assumes nothing.
-use mathlib.Core.Path.{_≡_, refl, _∙_, ap}
+use mathlib.Core.Path.{_≡_, refl, sym, _∙_, ap}
 use mathlib.Core.Bool.{Bool, true, false, _&&_}
 use mathlib.Core.List.{List, [], _∷_, _++_}
 use Prim.Native.Nat.{ℕ, zero, suc, _+_, _-_, _<_, _≤_}
 use native.Mathlib.Omega.{arith}
+use native.Mathlib.Decide.{decLt}
 use lib.ListN.{length, take, drop, getD, drop-of-length-le}
-use lib.Seq.{drop-drop, getD-drop}
+use lib.Seq.{drop-drop, getD-take, getD-drop}
 use lib.Dec.{eqb}
 use borrow.Author.Tests.{eq-eqb, ne-eqb}
 use Rattle.scan.specs.Scan.{byteAt, partOf}
 use Rattle.scan.specs.RunLaws.{drop-step}
+use Rattle.scan.specs.PartLaws.{part-length}
 use Rattle.words.specs.Words.{Row, same, lookupIn}
 use Rattle.words.specs.declared.words.Named.{Named}
 use Rattle.aliases.specs.Rows.{rowsFrom, rowsOf}
@@ -132,6 +134,46 @@ module _ (v w : List ℕ) (i : ℕ) where
   unfolding sameAt same
   same-off h k e = rw (drop-step v i h, drop-step w i k, ne-eqb (byteAt v i) (byteAt w i) e)
 
+-- a word, from its end: where each byte is the same, and where one is not
+pub same-all : (v w : List ℕ) → length v ≡ length w → ((q : ℕ) → q < length v → byteAt v q ≡ byteAt w q) → same v w ≡ true
+same-all v w e h = same-start v w ∙ go (length v) 0 (omega arith)
+  where
+    go : (d i : ℕ) → i + d ≡ length v → sameAt v w i ≡ true
+    go zero i q = same-end v w i (omega arith) (omega arith)
+    go (suc d) i q = same-on v w i (omega arith) (omega arith) (h i (omega arith)) ∙ go d (i + 1) (omega arith)
+
+pub same-not : (v w : List ℕ) (i : ℕ) → i < length v → (byteAt v i ≡ byteAt w i → ⊥) → same v w ≡ false
+unfolding same
+same-not [] w i h e = absurd (omega arith)
+same-not (x ∷ v) [] i h e = refl
+same-not (x ∷ v) (y ∷ w) zero h e = rw (ne-eqb x y e)
+same-not (x ∷ v) (y ∷ w) (suc i) h e = go (eqb x y) (same-not v w i (omega arith) e)
+  where
+    go : (b : Bool) → same v w ≡ false → (b && same v w) ≡ false
+    go true f = f
+    go false f = refl
+
+-- from the end down to k: one byte more
+pub same-down : (s w : List ℕ) (a k : ℕ) → ((q : ℕ) → k ≤ q → q < length w → byteAt s (a + q) ≡ byteAt w q) → byteAt s (a + (k - 1)) ≡ byteAt w (k - 1) →
+    (q : ℕ) → k - 1 ≤ q → q < length w → byteAt s (a + q) ≡ byteAt w q
+same-down s w a k h e q l i = go (decLt q k)
+  where
+    go : Dec (q < k) → byteAt s (a + q) ≡ byteAt w q
+    go (yes p) = let z : k - 1 ≡ q = omega arith in rw z at e
+    go (no p) = h q (omega arith) i
+
+-- a byte of a part
+pub part-byte : (s : List ℕ) (a e i : ℕ) → i < e - a → byteAt (partOf s a e) i ≡ byteAt s (a + i)
+part-byte s a e i h = getD-take (e - a) _ i 0 h ∙ getD-drop a s i 0
+
+-- a word and the part at a that is as long
+module _ (s w : List ℕ) (a : ℕ) (fits : a + length w ≤ length s) where
+  pub same-there : ((q : ℕ) → 0 ≤ q → q < length w → byteAt s (a + q) ≡ byteAt w q) → same w (partOf s a (a + length w)) ≡ true
+  same-there h = same-all w _ (omega (arith, part-length s a (a + length w) fits)) (λ q i. sym (part-byte s a (a + length w) q (omega arith) ∙ h q (omega arith) i))
+
+  pub same-nowhere : (k : ℕ) → k < length w → (byteAt s (a + k) ≡ byteAt w k → ⊥) → same w (partOf s a (a + length w)) ≡ false
+  same-nowhere k h e = same-not w _ k h (λ f. e (sym (f ∙ part-byte s a (a + length w) k (omega arith))))
+
 -- lookup from position i on -----------------------------------------------------------------------------------------------------------------
 
 module _ (s w : List ℕ) (i : ℕ) where
@@ -144,3 +186,10 @@ module _ (s w : List ℕ) (i : ℕ) where
   pub find-end : length s ≤ i → lookupIn (rowsAt s i) w ≡ Named.Unknown
   unfolding lookupIn
   find-end h = ap (λ rs. lookupIn rs w) (rows-end s i h)
+
+  -- a row of n bytes is passed by a word of another length
+  pub find-as-long : (n : ℕ) → n ≡ byteAt s i → i + 2 + n ≤ length s → (length w ≡ n → ⊥) → lookupIn (rowsAt s i) w ≡ lookupIn (rowsAt s (i + 2 + n)) w
+  find-as-long n q h e =
+      let f : i + 2 + byteAt s i ≡ i + 2 + n = omega arith in
+      find-past (omega arith) (same-lengths _ _ (λ l. e (omega (arith, l, part-length s (i + 2) (i + 2 + byteAt s i) (omega arith)))))
+      ∙ ap (λ (k : ℕ). lookupIn (rowsAt s k) w) f

@@ -2,6 +2,7 @@
 use super::add::count;
 use super::order::Order;
 use super::order::compare;
+use super::quick::quickly_good;
 use scan::part::byte_at;
 use scan::part::part;
 use scan::run::word_end;
@@ -79,8 +80,8 @@ fn good_rows(area: &[u8], classes: &[u8; 256]) -> bool
     true
 }
 
-// Whether these bytes are aliases of a session.
-pub fn good(area: &[u8], classes: &[u8; 256]) -> bool
+// Whether these bytes are aliases of a session: row by row.
+fn plainly_good(area: &[u8], classes: &[u8; 256]) -> bool
     requires { ⌜ Classes (now classes) ⌝ }
     ensures { λ r. ⌜ r ≡ goodArea (now (area .entry)) ⌝ }
 {
@@ -88,4 +89,18 @@ pub fn good(area: &[u8], classes: &[u8; 256]) -> bool
         return false;
     }
     count(area) <= 32
+}
+
+// Whether these bytes are aliases of a session: words of letters quickly.
+pub fn good(area: &[u8], classes: &[u8; 256]) -> bool
+    requires { ⌜ Classes (now classes) ⌝ }
+    ensures { λ r. ⌜ r ≡ goodArea (now (area .entry)) ⌝ }
+{
+    if area.len() == 0 {
+        return true;
+    }
+    if quickly_good(area) {
+        return true;
+    }
+    plainly_good(area, classes)
 }

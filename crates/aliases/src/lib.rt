@@ -1,5 +1,8 @@
 // Added aliases, lent as bytes: one after the other, each its word's length, its command and its word.
 pub mod add;
 pub mod good;
+mod letters;
 pub mod lookup;
+mod number;
 pub mod order;
+mod quick;

@@ -1,25 +1,26 @@
 -- `good::good` meets its contract.
 -- Assumes nothing.
-use mathlib.Core.Path.{sym, _∙_}
-use borrow.Author.Tests.{not-true, not-false}
-use Rattle.aliases.specs.Good.{goodArea}
+use mathlib.Core.Path.{sym}
+use Rattle.aliases.specs.QuickLaws.{good-none}
 use borrow.Author.Needs.{needs}
 use Rattle.aliases.proofs.good.good.Statement.{statement}
 use Rattle.aliases.proofs.good.good.Tie as tie
 
-good-rows-requires : tie.Need-good-rows-requires
-good-rows-requires c κs = search needs
-
 returns : tie.Need-returns
-unfolding goodArea
-returns c = rw (sym (c .before .good-rows .ensures) ∙ not-true _ (c .if1 .taken))
+returns c = sym (good-none _ (c .if1 .taken))
 
-count-requires : tie.Need-count-requires
-count-requires c κs = search needs
+quickly-good-requires : tie.Need-quickly-good-requires
+quickly-good-requires c κs = search needs
 
 returns-2 : tie.Need-returns-2
-unfolding goodArea
-returns-2 c = rw (c .count .ensures, sym (c .before .before .good-rows .ensures) ∙ not-false _ (c .before .if1 .left))
+returns-2 c = sym (c .before .quickly-good .ensures (c .if2 .taken))
+
+plainly-good-requires : tie.Need-plainly-good-requires
+plainly-good-requires c κs = search needs
+
+returns-3 : tie.Need-returns-3
+returns-3 c = search needs
 
 pub good-spec : {M : Type 1} → statement M
-good-spec = tie.close (tie.spec good-rows-requires returns count-requires returns-2)
+good-spec =
+    tie.close (tie.spec returns quickly-good-requires returns-2 plainly-good-requires returns-3)

@@ -1,9 +1,10 @@
--- `lookup::find` meets its contract. The invariant: the word is found from i on, or nowhere.
+-- `lookup::find` meets its contract. The invariant: where i is within the rows, the word is found from i on, or nowhere.
 -- Assumes nothing.
-use mathlib.Core.Path.{_≡_, sym, _∙_, ap}
-use Prim.Native.Nat.{_-_}
+use mathlib.Core.Path.{_≡_, refl, sym, _∙_, ap}
 use native.Mathlib.Omega.{arith}
+use Prim.Native.Nat.{ℕ, _+_, _-_, _≤_}
 use lib.ListN.{length}
+use Rattle.scan.specs.Scan.{partOf}
 use Rattle.words.specs.Words.{same as sameWord, lookupIn}
 use Rattle.aliases.specs.Rows.{rowsOf}
 use Rattle.aliases.specs.RowsLaws.{rowsAt, rows-start, find-here, find-past, find-end}
@@ -12,59 +13,80 @@ use Rattle.aliases.proofs.lookup.find.Statement.{statement}
 use Rattle.aliases.proofs.lookup.find.Tie as tie
 
 abbrev Inv-loop : tie.InvT-loop
-Inv-loop added w i₀ i = lookupIn (rowsOf added) w ≡ lookupIn (rowsAt added i) w
+Inv-loop added w m i₀ i = i ≤ length added → lookupIn (rowsOf added) w ≡ lookupIn (rowsAt added i) w
 
 abbrev μ-loop : tie.MeasureT-loop
-μ-loop added w i₀ i = length added - i
+μ-loop added w m i₀ i = length added - i
 
 loop-holds : tie.Need-loop-holds Inv-loop μ-loop
-loop-holds c = rw (rows-start (c .before .before .args .added .now))
+loop-holds c = λ h. ap (λ rs. lookupIn rs (c .before .before .args .w .now)) (rows-start (c .before .before .args .added .now))
 
-add-j : tie.Need-add-j Inv-loop μ-loop
-add-j c = search needs
+shared-slice-read-n : tie.Need-shared-slice-read-n Inv-loop μ-loop
+shared-slice-read-n c = search needs
 
-shared-slice-read-j : tie.Need-shared-slice-read-j Inv-loop μ-loop
-shared-slice-read-j c = search needs
+cast-n : tie.Need-cast-n Inv-loop μ-loop
+cast-n c = omega (arith, c .shared-slice-known3 .given (c .before .before .loop .i))
 
-cast-j : tie.Need-cast-j Inv-loop μ-loop
-cast-j c = omega (arith, c .shared-slice-known3 .given (c .before .before .loop .i))
-
-add-j-2 : tie.Need-add-j-2 Inv-loop μ-loop
-add-j-2 c = omega (arith, c .shared-slice-known3 .given (c .before .before .loop .i))
-
-add-part : tie.Need-add-part Inv-loop μ-loop
-add-part c = search needs
-
-part-requires : tie.Need-part-requires Inv-loop μ-loop
-part-requires c κs = search needs
-
-same-requires : tie.Need-same-requires Inv-loop μ-loop
-same-requires c κs = search needs
-
-add-byte-at : tie.Need-add-byte-at Inv-loop μ-loop
-add-byte-at c = search needs
-
-byte-at-requires : tie.Need-byte-at-requires Inv-loop μ-loop
-byte-at-requires c κs = search needs
-
-cast-t14 : tie.Need-cast-t14 Inv-loop μ-loop
-cast-t14 c = search needs
-
-returns : tie.Need-returns Inv-loop μ-loop
-returns c =
-    let l = c .before .before .before .before .before .before .loop in
-    rw (c .byte-at .ensures) (sym (l .inv ∙ find-here _ _ _ (c .before .before .before .before .before .loop-test .taken) (sym (c .before .before .same .ensures ∙ ap (sameWord _) (c .before .before .before .part .ensures)) ∙ c .before .if1 .taken)))
+past-requires : tie.Need-past-requires Inv-loop μ-loop
+past-requires c κs = (search needs, (refl, omega (arith, c .before .shared-slice-known3 .given (c .before .before .before .loop .i))))
 
 loop-less : tie.Need-loop-less Inv-loop μ-loop
-loop-less c = search needs
+loop-less c = omega (arith, c .past .ensures .0)
 
 loop-again : tie.Need-loop-again Inv-loop μ-loop
 loop-again c =
+    let a = c .before .before .before .before .before .before .before .args in
+    λ h. c .before .before .before .before .loop .inv (omega arith) ∙ c .past .ensures .1 h (a .w .now) (λ e. c .before .if1 .taken (sym e))
+
+add-stands-at : tie.Need-add-stands-at Inv-loop μ-loop
+add-stands-at c = search needs
+
+stands-at-requires : tie.Need-stands-at-requires Inv-loop μ-loop
+stands-at-requires c κs = search needs
+
+add-t11 : tie.Need-add-t11 Inv-loop μ-loop
+add-t11 c = search needs
+
+shared-slice-read-t13 : tie.Need-shared-slice-read-t13 Inv-loop μ-loop
+shared-slice-read-t13 c = omega (arith, c .before .before .stands-at .ensures .1 (c .before .if2 .taken))
+
+cast-t14 : tie.Need-cast-t14 Inv-loop μ-loop
+cast-t14 c = omega (arith, c .shared-slice-known4 .given (c .before .before .before .before .before .before .loop .i + 1))
+
+returns : tie.Need-returns Inv-loop μ-loop
+returns c =
+    let a = c .before .before .before .before .before .before .before .before .before .args in
+    let l = c .before .before .before .before .before .before .loop in
+    let n = c .before .before .before .if1 .left in
+    let e = ap (λ (k : ℕ). sameWord (a .w .now) (partOf (a .added .now) (l .i + 2) (l .i + 2 + k))) n ∙ sym (c .before .before .stands-at .ensures .0 (c .before .before .stands-at .ensures .1 (c .before .if2 .taken))) ∙ c .before .if2 .taken in
+    sym (l .inv (omega arith) ∙ find-here (a .added .now) (a .w .now) (l .i) (omega arith) e)
+
+add-i : tie.Need-add-i Inv-loop μ-loop
+add-i c = search needs
+
+add-i-2 : tie.Need-add-i-2 Inv-loop μ-loop
+add-i-2 c = search needs
+
+loop-less-2 : tie.Need-loop-less-2 Inv-loop μ-loop
+loop-less-2 c = search needs
+
+loop-again-2 : tie.Need-loop-again-2 Inv-loop μ-loop
+loop-again-2 c =
+    λ h.
+    let a = c .before .before .before .before .before .before .before .before .args in
     let l = c .before .before .before .before .before .loop in
-    l .inv ∙ find-past _ _ _ (c .before .before .before .before .loop-test .taken) (sym (c .before .same .ensures ∙ ap (sameWord _) (c .before .before .part .ensures)) ∙ c .if1 .left)
+    let n = c .before .before .if1 .left in
+    let e = ap (λ (k : ℕ). sameWord (a .w .now) (partOf (a .added .now) (l .i + 2) (l .i + 2 + k))) n ∙ sym (c .before .stands-at .ensures .0 h) ∙ c .if2 .left in
+    l .inv (omega arith) ∙ find-past (a .added .now) (a .w .now) (l .i) (omega arith) e ∙ ap (λ (k : ℕ). lookupIn (rowsAt (a .added .now) (l .i + 2 + k)) (a .w .now)) n
+
+find-plainly-requires : tie.Need-find-plainly-requires Inv-loop μ-loop
+find-plainly-requires c κs = search needs
 
 returns-2 : tie.Need-returns-2 Inv-loop μ-loop
-returns-2 c = sym (c .before .loop .inv ∙ find-end _ _ _ (c .loop-test .left))
+returns-2 c = c .find-plainly .ensures
+
+returns-3 : tie.Need-returns-3 Inv-loop μ-loop
+returns-3 c = sym (c .before .before .loop .inv (omega arith) ∙ find-end _ _ _ (omega arith))
 
 pub find-spec : {M : Type 1} → statement M
 find-spec =
@@ -73,17 +95,21 @@ find-spec =
     Inv-loop
     μ-loop
     loop-holds
-    add-j
-    shared-slice-read-j
-    cast-j
-    add-j-2
-    add-part
-    part-requires
-    same-requires
-    add-byte-at
-    byte-at-requires
-    cast-t14
-    returns
+    shared-slice-read-n
+    cast-n
+    past-requires
     loop-less
     loop-again
-    returns-2)
+    add-stands-at
+    stands-at-requires
+    add-t11
+    shared-slice-read-t13
+    cast-t14
+    returns
+    add-i
+    add-i-2
+    loop-less-2
+    loop-again-2
+    find-plainly-requires
+    returns-2
+    returns-3)

@@ -1,0 +1,109 @@
+-- `number::eight` meets its contract.
+-- Assumes nothing.
+use native.Mathlib.Omega.{arith}
+use Prim.Native.Nat.{_+_}
+use Rattle.aliases.specs.NumberLaws.{number-eight}
+use borrow.Author.Needs.{needs}
+use Rattle.aliases.proofs.number.eight.Statement.{statement}
+use Rattle.aliases.proofs.number.eight.Tie as tie
+
+add-above : tie.Need-add-above
+add-above c = search needs
+
+shared-slice-read-above : tie.Need-shared-slice-read-above
+shared-slice-read-above c = search needs
+
+add-above-2 : tie.Need-add-above-2
+add-above-2 c = search needs
+
+shared-slice-read-above-2 : tie.Need-shared-slice-read-above-2
+shared-slice-read-above-2 c = search needs
+
+cast-above : tie.Need-cast-above
+cast-above c = omega (arith, c .before .before .shared-slice-known .given (c .before .before .before .args .at + 7))
+
+above-requires : tie.Need-above-requires
+above-requires c κs = (omega arith, omega (arith, c .before .before .shared-slice-known .given (c .before .before .before .args .at + 7)))
+
+add-above-3 : tie.Need-add-above-3
+add-above-3 c = search needs
+
+shared-slice-read-above-3 : tie.Need-shared-slice-read-above-3
+shared-slice-read-above-3 c = search needs
+
+add-above-4 : tie.Need-add-above-4
+add-above-4 c = search needs
+
+shared-slice-read-above-4 : tie.Need-shared-slice-read-above-4
+shared-slice-read-above-4 c = search needs
+
+above-requires-2 : tie.Need-above-requires-2
+above-requires-2 c κs = (omega arith, omega (arith, c .before .before .above .ensures, c .before .before .before .before .before .shared-slice-known .given (c .before .before .before .before .before .before .args .at + 6), c .before .before .before .before .before .shared-slice-known .given (c .before .before .before .before .before .before .args .at + 7)))
+
+above-requires-3 : tie.Need-above-requires-3
+above-requires-3 c κs = (omega arith, omega (arith, c .before .before .before .above .ensures, c .above2 .ensures, c .before .before .before .before .before .before .shared-slice-known .given (c .before .before .before .before .before .before .before .args .at + 5), c .before .before .before .before .before .before .shared-slice-known .given (c .before .before .before .before .before .before .before .args .at + 6), c .before .before .before .before .before .before .shared-slice-known .given (c .before .before .before .before .before .before .before .args .at + 7)))
+
+add-above-5 : tie.Need-add-above-5
+add-above-5 c = search needs
+
+shared-slice-read-above-5 : tie.Need-shared-slice-read-above-5
+shared-slice-read-above-5 c = search needs
+
+add-above-6 : tie.Need-add-above-6
+add-above-6 c = search needs
+
+shared-slice-read-above-6 : tie.Need-shared-slice-read-above-6
+shared-slice-read-above-6 c = search needs
+
+above-requires-4 : tie.Need-above-requires-4
+above-requires-4 c κs = (omega arith, omega (arith, c .before .before .before .before .before .before .above .ensures, c .before .before .before .above2 .ensures, c .before .before .above3 .ensures, c .before .before .before .before .before .before .before .before .before .shared-slice-known .given (c .before .before .before .before .before .before .before .before .before .before .args .at + 4), c .before .before .before .before .before .before .before .before .before .shared-slice-known .given (c .before .before .before .before .before .before .before .before .before .before .args .at + 5), c .before .before .before .before .before .before .before .before .before .shared-slice-known .given (c .before .before .before .before .before .before .before .before .before .before .args .at + 6), c .before .before .before .before .before .before .before .before .before .shared-slice-known .given (c .before .before .before .before .before .before .before .before .before .before .args .at + 7)))
+
+above-requires-5 : tie.Need-above-requires-5
+above-requires-5 c κs = (omega arith, omega (arith, c .before .before .before .before .before .before .before .above .ensures, c .before .before .before .before .above2 .ensures, c .before .before .before .above3 .ensures, c .above4 .ensures, c .before .before .before .before .before .before .before .before .before .before .shared-slice-known .given (c .before .before .before .before .before .before .before .before .before .before .before .args .at + 3), c .before .before .before .before .before .before .before .before .before .before .shared-slice-known .given (c .before .before .before .before .before .before .before .before .before .before .before .args .at + 4), c .before .before .before .before .before .before .before .before .before .before .shared-slice-known .given (c .before .before .before .before .before .before .before .before .before .before .before .args .at + 5), c .before .before .before .before .before .before .before .before .before .before .shared-slice-known .given (c .before .before .before .before .before .before .before .before .before .before .before .args .at + 6), c .before .before .before .before .before .before .before .before .before .before .shared-slice-known .given (c .before .before .before .before .before .before .before .before .before .before .before .args .at + 7)))
+
+shared-slice-read-above-7 : tie.Need-shared-slice-read-above-7
+shared-slice-read-above-7 c = search needs
+
+add-above-7 : tie.Need-add-above-7
+add-above-7 c = search needs
+
+shared-slice-read-above-8 : tie.Need-shared-slice-read-above-8
+shared-slice-read-above-8 c = search needs
+
+above-requires-6 : tie.Need-above-requires-6
+above-requires-6 c κs = (omega arith, omega (arith, c .before .before .before .before .before .before .before .before .before .before .above .ensures, c .before .before .before .before .before .before .before .above2 .ensures, c .before .before .before .before .before .before .above3 .ensures, c .before .before .before .above4 .ensures, c .before .before .above5 .ensures, c .before .before .before .before .before .before .before .before .before .before .before .before .before .shared-slice-known .given (c .before .before .before .before .before .before .before .before .before .before .before .before .before .before .args .at + 2), c .before .before .before .before .before .before .before .before .before .before .before .before .before .shared-slice-known .given (c .before .before .before .before .before .before .before .before .before .before .before .before .before .before .args .at + 3), c .before .before .before .before .before .before .before .before .before .before .before .before .before .shared-slice-known .given (c .before .before .before .before .before .before .before .before .before .before .before .before .before .before .args .at + 4), c .before .before .before .before .before .before .before .before .before .before .before .before .before .shared-slice-known .given (c .before .before .before .before .before .before .before .before .before .before .before .before .before .before .args .at + 5), c .before .before .before .before .before .before .before .before .before .before .before .before .before .shared-slice-known .given (c .before .before .before .before .before .before .before .before .before .before .before .before .before .before .args .at + 6), c .before .before .before .before .before .before .before .before .before .before .before .before .before .shared-slice-known .given (c .before .before .before .before .before .before .before .before .before .before .before .before .before .before .args .at + 7)))
+
+above-requires-7 : tie.Need-above-requires-7
+above-requires-7 c κs = (omega arith, omega (arith, c .before .before .before .before .before .before .before .before .before .before .before .above .ensures, c .before .before .before .before .before .before .before .before .above2 .ensures, c .before .before .before .before .before .before .before .above3 .ensures, c .before .before .before .before .above4 .ensures, c .before .before .before .above5 .ensures, c .above6 .ensures, c .before .before .before .before .before .before .before .before .before .before .before .before .before .before .shared-slice-known .given (c .before .before .before .before .before .before .before .before .before .before .before .before .before .before .before .args .at + 1), c .before .before .before .before .before .before .before .before .before .before .before .before .before .before .shared-slice-known .given (c .before .before .before .before .before .before .before .before .before .before .before .before .before .before .before .args .at + 2), c .before .before .before .before .before .before .before .before .before .before .before .before .before .before .shared-slice-known .given (c .before .before .before .before .before .before .before .before .before .before .before .before .before .before .before .args .at + 3), c .before .before .before .before .before .before .before .before .before .before .before .before .before .before .shared-slice-known .given (c .before .before .before .before .before .before .before .before .before .before .before .before .before .before .before .args .at + 4), c .before .before .before .before .before .before .before .before .before .before .before .before .before .before .shared-slice-known .given (c .before .before .before .before .before .before .before .before .before .before .before .before .before .before .before .args .at + 5), c .before .before .before .before .before .before .before .before .before .before .before .before .before .before .shared-slice-known .given (c .before .before .before .before .before .before .before .before .before .before .before .before .before .before .before .args .at + 6), c .before .before .before .before .before .before .before .before .before .before .before .before .before .before .shared-slice-known .given (c .before .before .before .before .before .before .before .before .before .before .before .before .before .before .before .args .at + 7)))
+
+returns : tie.Need-returns
+returns c = omega (arith, c .before .before .before .before .before .before .before .before .before .before .before .before .above .ensures, c .before .before .before .before .before .before .before .before .before .above2 .ensures, c .before .before .before .before .before .before .before .before .above3 .ensures, c .before .before .before .before .before .above4 .ensures, c .before .before .before .before .above5 .ensures, c .before .above6 .ensures, c .above7 .ensures, number-eight (c .before .before .before .before .before .before .before .before .before .before .before .before .before .before .before .before .args .s .now) (c .before .before .before .before .before .before .before .before .before .before .before .before .before .before .before .before .args .at))
+
+pub eight-spec : {M : Type 1} → statement M
+eight-spec =
+    tie.close
+    (tie.spec
+    add-above
+    shared-slice-read-above
+    add-above-2
+    shared-slice-read-above-2
+    cast-above
+    above-requires
+    add-above-3
+    shared-slice-read-above-3
+    add-above-4
+    shared-slice-read-above-4
+    above-requires-2
+    above-requires-3
+    add-above-5
+    shared-slice-read-above-5
+    add-above-6
+    shared-slice-read-above-6
+    above-requires-4
+    above-requires-5
+    shared-slice-read-above-7
+    add-above-7
+    shared-slice-read-above-8
+    above-requires-6
+    above-requires-7
+    returns)

@@ -1,0 +1,62 @@
+// How many bytes are letters: many are tested at once.
+ghost use mathlib.Core.Path.{_≡_};
+ghost use Prim.Native.Nat.{_+_, _≤_};
+ghost use lib.ListN.{length, drop};
+ghost use Rattle.scan.specs.Bytes.{within as withinOf};
+ghost use Rattle.aliases.specs.Letters.{letterOf, lettersOf};
+
+fn within(lo: u8, hi: u8, b: u8) -> bool
+    ensures { λ r. ⌜ r ≡ withinOf lo hi b ⌝ }
+{
+    lo <= b && b <= hi
+}
+
+// 1 for a letter, else 0.
+fn letter(b: u8) -> u8
+    ensures { λ r. ⌜ r ≡ letterOf b ⌝ }
+{
+    if within(0x41, 0x5A, b) {
+        return 1;
+    }
+    if within(0x61, 0x7A, b) {
+        return 1;
+    }
+    0
+}
+
+// The letters among the `n` bytes from `at` on: by vector instructions, where n is fixed.
+fn letters_in(s: &[u8], at: usize, n: usize) -> u8
+    requires { ⌜ at + n ≤ length (now s) ⌝ }
+    requires { ⌜ n ≤ 64 ⌝ }
+    ensures sum { λ r. ⌜ lettersOf (drop at (now (s .entry))) ≡ r + lettersOf (drop (at + n) (now (s .entry))) ⌝ }
+    ensures most { λ r. ⌜ r ≤ n ⌝ }
+{
+    let mut c: u8 = 0;
+    let mut i: usize = 0;
+    while i < n {
+        c = c + letter(s[at + i]);
+        i += 1;
+    }
+    c
+}
+
+// How many letters there are: in blocks of 64, then of 16, then byte by byte.
+pub fn letters(s: &[u8]) -> usize
+    ensures { λ r. ⌜ r ≡ lettersOf (now (s .entry)) ⌝ }
+{
+    let mut i: usize = 0;
+    let mut c: usize = 0;
+    while 64 <= s.len() - i {
+        c = c + letters_in(s, i, 64) as usize;
+        i += 64;
+    }
+    while 16 <= s.len() - i {
+        c = c + letters_in(s, i, 16) as usize;
+        i += 16;
+    }
+    while i < s.len() {
+        c = c + letter(s[i]) as usize;
+        i += 1;
+    }
+    c
+}

@@ -1,0 +1,163 @@
+// A quick test of aliases whose words are letters: it says yes only to what is aliases of a session.
+use super::letters::letters;
+use super::number::eight;
+ghost use mathlib.Core.Path.{_≡_};
+ghost use mathlib.Core.Bool.{true};
+ghost use Prim.Native.Nat.{_+_, _≤_};
+ghost use lib.ListN.{length};
+ghost use Rattle.aliases.specs.Number.{numberAt, Alike, Earlier};
+ghost use Rattle.aliases.specs.Good.{goodArea};
+ghost use Rattle.aliases.specs.Quick.{Passed, Counted};
+
+// True only where the n bytes from `from` on come before those from `at` on: byte by byte.
+fn bytes_after(s: &[u8], from: usize, at: usize, n: usize) -> bool
+    requires { ⌜ from ≤ at ⌝ }
+    requires { ⌜ at + n ≤ length (now s) ⌝ }
+    ensures { λ r. ⌜ (r ≡ true → Earlier (now (s .entry)) from at n) ⌝ }
+{
+    let mut k: usize = 0;
+    while k < n {
+        let x = s[from + k];
+        let y = s[at + k];
+        if x != y {
+            return x < y;
+        }
+        k += 1;
+    }
+    false
+}
+
+// The same of 8 to 24 bytes, of which the first eight are alike: by eights, the last up to the end.
+fn rest_after(s: &[u8], from: usize, at: usize, n: usize) -> bool
+    requires { ⌜ from ≤ at ⌝ }
+    requires { ⌜ at + n ≤ length (now s) ⌝ }
+    requires { ⌜ 8 ≤ n ⌝ }
+    requires { ⌜ n ≤ 24 ⌝ }
+    requires { ⌜ Alike (now s) from at 8 ⌝ }
+    ensures { λ r. ⌜ (r ≡ true → Earlier (now (s .entry)) from at n) ⌝ }
+{
+    let e = n - 8;
+    if 16 < n {
+        let x = eight(s, from + 8);
+        let y = eight(s, at + 8);
+        if x != y {
+            return x < y;
+        }
+        return eight(s, from + e) < eight(s, at + e);
+    }
+    eight(s, from + e) < eight(s, at + e)
+}
+
+// The same of 1 to 24 bytes: x is the eight bytes from `from` on, y those from `at` on.
+fn word_after(s: &[u8], from: usize, x: u64, at: usize, y: u64, n: usize) -> bool
+    requires { ⌜ from ≤ at ⌝ }
+    requires { ⌜ at + n ≤ length (now s) ⌝ }
+    requires { ⌜ 1 ≤ n ⌝ }
+    requires { ⌜ n ≤ 24 ⌝ }
+    requires { ⌜ x ≡ numberAt 0 (now s) from 8 ⌝ }
+    requires { ⌜ y ≡ numberAt 0 (now s) at 8 ⌝ }
+    ensures { λ r. ⌜ (r ≡ true → Earlier (now (s .entry)) from at n) ⌝ }
+{
+    if n < 8 {
+        let h = 64 - 8 * n;
+        return x >> h < y >> h;
+    }
+    if x != y {
+        return x < y;
+    }
+    rest_after(s, from, at, n)
+}
+
+// How many rows there are, where each is within its bounds and after the one before it; else 33. From `at` on, where some are passed.
+fn last_rows(s: &[u8], at: usize, word: usize, passed: usize) -> usize
+    requires { ⌜ Passed (now s) word at passed ⌝ }
+    ensures { λ r. ⌜ Counted (now (s .entry)) r ⌝ }
+{
+    let mut i = at;
+    let mut from = word;
+    let mut k = passed;
+    while i < s.len() {
+        let n = s[i] as usize;
+        let j = i + 2 + n;
+        if s.len() < j {
+            return 33;
+        }
+        if n == 0 {
+            return 33;
+        }
+        if 24 < n {
+            return 33;
+        }
+        if 27 < s[i + 1] {
+            return 33;
+        }
+        if !bytes_after(s, from, i + 2, n) {
+            return 33;
+        }
+        k += 1;
+        from = i + 2;
+        i = j;
+    }
+    k
+}
+
+// How many bytes a row of n bytes is looked at by: its own, and eight of its word.
+fn room(n: usize) -> usize
+    requires { ⌜ n ≤ 24 ⌝ }
+    ensures eight { λ r. ⌜ 10 ≤ r ⌝ }
+    ensures row { λ r. ⌜ n + 2 ≤ r ⌝ }
+{
+    if n < 8 { 10 } else { n + 2 }
+}
+
+// The same of all rows: by eights, as far as they are there. Those of one length are passed without waiting for the length of each.
+fn rows(s: &[u8]) -> usize
+    ensures { λ r. ⌜ Counted (now (s .entry)) r ⌝ }
+{
+    if s.len() < 10 {
+        return last_rows(s, 0, 0, 0);
+    }
+    let mut i: usize = 0;
+    let mut from: usize = 0;
+    let mut k: usize = 0;
+    let mut x = eight(s, 0);
+    while 10 <= s.len() - i {
+        let n = s[i] as usize;
+        if n == 0 {
+            return 33;
+        }
+        if 24 < n {
+            return 33;
+        }
+        let r = room(n);
+        if s.len() - i < r {
+            return 33;
+        }
+        let stop = s.len() - r;
+        while i <= stop && s[i] as usize == n {
+            if 27 < s[i + 1] {
+                return 33;
+            }
+            let y = eight(s, i + 2);
+            if !word_after(s, from, x, i + 2, y, n) {
+                return 33;
+            }
+            x = y;
+            k += 1;
+            from = i + 2;
+            i = i + 2 + n;
+        }
+    }
+    last_rows(s, i, from, k)
+}
+
+// True only for aliases of a session: all bytes but two of each row are letters.
+pub fn quickly_good(area: &[u8]) -> bool
+    ensures { λ r. ⌜ (r ≡ true → goodArea (now (area .entry)) ≡ true) ⌝ }
+{
+    let k = rows(area);
+    if 32 < k {
+        return false;
+    }
+    letters(area) + 2 * k == area.len()
+}
