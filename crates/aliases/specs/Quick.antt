@@ -8,10 +8,11 @@ use lib.ListN.{length, drop}
 use Rattle.scan.specs.Scan.{byteAt, partOf}
 use Rattle.aliases.specs.Rows.{rowsOf}
 use Rattle.aliases.specs.RowsLaws.{rowsAt}
-use Rattle.aliases.specs.Number.{Earlier}
+use Rattle.aliases.specs.Number.{numberAt, Earlier}
 use Rattle.aliases.specs.Letters.{lettersOf}
 use Rattle.aliases.specs.Good.{goodFrom, goodArea}
 use Rattle.aliases.specs.GoodLaws.{goodAt}
+use Rattle.aliases.specs.declared.quick.Walk.{Walk}
 
 -- a row within its bounds: its word is as long as it says, its command is one, and it comes after the bytes at `from`
 pub record Bounded (s : List ℕ) (from i : ℕ) : Type 0 where
@@ -28,6 +29,9 @@ pub record Passed (s : List ℕ) (from i k : ℕ) : Type 0 where
   pub most : lettersOf s + 2 * k ≤ i + lettersOf (drop i s)
   pub good : lettersOf s + 2 * k ≡ i + lettersOf (drop i s) → goodFrom 0 [] s ≡ goodAt (partOf s from i) s i
   pub count : length (rowsOf s) ≡ k + length (rowsAt s i)
+
+abbrev pub Walked : List ℕ → Walk → Type 0
+Walked s w = Passed s (w .from) (w .i) (w .k) × (w .x ≡ numberAt 0 s (w .from) 8)
 
 -- r rows, or more than 32: where all bytes but two of each are letters, they are aliases of a session
 abbrev pub Counted : List ℕ → ℕ → Type 0

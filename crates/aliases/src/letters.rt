@@ -40,7 +40,7 @@ fn letters_in(s: &[u8], at: usize, n: usize) -> u8
     c
 }
 
-// How many letters there are: in blocks of 64, then of 16, then byte by byte.
+// How many letters there are: in blocks of 64, of 16 and of 4, then byte by byte.
 pub fn letters(s: &[u8]) -> usize
     ensures { λ r. ⌜ r ≡ lettersOf (now (s .entry)) ⌝ }
 {
@@ -53,6 +53,10 @@ pub fn letters(s: &[u8]) -> usize
     while 16 <= s.len() - i {
         c = c + letters_in(s, i, 16) as usize;
         i += 16;
+    }
+    while 4 <= s.len() - i {
+        c = c + letters_in(s, i, 4) as usize;
+        i += 4;
     }
     while i < s.len() {
         c = c + letter(s[i]) as usize;

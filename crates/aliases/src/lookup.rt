@@ -110,11 +110,21 @@ pub fn find(added: &[u8], w: &[u8]) -> Named
     Named::Unknown
 }
 
+// The same, at once where there are no aliases.
+fn find_any(added: &[u8], w: &[u8]) -> Named
+    ensures { λ r. ⌜ r ≡ lookupIn (rowsOf (now (added .entry))) (now (w .entry)) ⌝ }
+{
+    if added.len() == 0 {
+        return Named::Unknown;
+    }
+    find(added, w)
+}
+
 // What a word leads to: added aliases come first, then what is shipped.
 pub fn lookup_in(added: &[u8], w: &[u8]) -> Named
     ensures { λ r. ⌜ r ≡ lookupIn (rowsOf (now (added .entry)) ++ shipped) (now (w .entry)) ⌝ }
 {
-    match find(added, w) {
+    match find_any(added, w) {
         Named::Command(n) => Named::Command(n),
         Named::Unknown => lookup(w),
     }

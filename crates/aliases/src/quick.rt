@@ -7,7 +7,18 @@ ghost use Prim.Native.Nat.{_+_, _≤_};
 ghost use lib.ListN.{length};
 ghost use Rattle.aliases.specs.Number.{numberAt, Alike, Earlier};
 ghost use Rattle.aliases.specs.Good.{goodArea};
-ghost use Rattle.aliases.specs.Quick.{Passed, Counted};
+ghost use Rattle.aliases.specs.Quick.{Passed, Walked, Counted};
+
+// How many bytes the longest row has.
+const ROW: usize = 26;
+
+// Rows that are passed: up to `i`, k of them, the last one's word at `from`; x is eight bytes from there on.
+pub struct Walk {
+    pub i: usize,
+    pub from: usize,
+    pub k: usize,
+    pub x: u64,
+}
 
 // True only where the n bytes from `from` on come before those from `at` on: byte by byte.
 fn bytes_after(s: &[u8], from: usize, at: usize, n: usize) -> bool
@@ -101,27 +112,114 @@ fn last_rows(s: &[u8], at: usize, word: usize, passed: usize) -> usize
     k
 }
 
+// The same of 1 to 24 bytes whose first eight mostly tell.
+fn word_soon_after(s: &[u8], from: usize, x: u64, at: usize, y: u64, n: usize) -> bool
+    requires { ⌜ from ≤ at ⌝ }
+    requires { ⌜ at + n ≤ length (now s) ⌝ }
+    requires { ⌜ 1 ≤ n ⌝ }
+    requires { ⌜ n ≤ 24 ⌝ }
+    requires { ⌜ x ≡ numberAt 0 (now s) from 8 ⌝ }
+    requires { ⌜ y ≡ numberAt 0 (now s) at 8 ⌝ }
+    ensures { λ r. ⌜ (r ≡ true → Earlier (now (s .entry)) from at n) ⌝ }
+{
+    if n < 8 {
+        let h = 64 - 8 * n;
+        return x >> h < y >> h;
+    }
+    if x < y {
+        return true;
+    }
+    bytes_after(s, from, at, n)
+}
+
 // How many bytes a row of n bytes is looked at by: its own, and eight of its word.
 fn room(n: usize) -> usize
     requires { ⌜ n ≤ 24 ⌝ }
-    ensures eight { λ r. ⌜ 10 ≤ r ⌝ }
-    ensures row { λ r. ⌜ n + 2 ≤ r ⌝ }
+    ensures { λ r. ⌜ (10 ≤ r) × (n + 2 ≤ r) × (r ≤ 26) ⌝ }
 {
     if n < 8 { 10 } else { n + 2 }
 }
 
-// The same of all rows: by eights, as far as they are there. Those of one length are passed without waiting for the length of each.
-fn rows(s: &[u8]) -> usize
-    ensures { λ r. ⌜ Counted (now (s .entry)) r ⌝ }
+// The rows at the front that are as long as the first: passed without waiting for the length of each.
+fn first_rows(s: &[u8]) -> Walk
+    requires { ⌜ 26 ≤ length (now s) ⌝ }
+    ensures { λ r. ⌜ Walked (now (s .entry)) r ⌝ }
 {
-    if s.len() < 10 {
-        return last_rows(s, 0, 0, 0);
-    }
     let mut i: usize = 0;
     let mut from: usize = 0;
     let mut k: usize = 0;
     let mut x = eight(s, 0);
-    while 10 <= s.len() - i {
+    let n = s[0] as usize;
+    if n == 0 {
+        return Walk {
+            i: i,
+            from: from,
+            k: k,
+            x: x,
+        };
+    }
+    if 24 < n {
+        return Walk {
+            i: i,
+            from: from,
+            k: k,
+            x: x,
+        };
+    }
+    let stop = s.len() - room(n);
+    while i <= stop {
+        if s[i] as usize != n {
+            return Walk {
+                i: i,
+                from: from,
+                k: k,
+                x: x,
+            };
+        }
+        if 27 < s[i + 1] {
+            return Walk {
+                i: i,
+                from: from,
+                k: k,
+                x: x,
+            };
+        }
+        let y = eight(s, i + 2);
+        if !word_after(s, from, x, i + 2, y, n) {
+            return Walk {
+                i: i,
+                from: from,
+                k: k,
+                x: x,
+            };
+        }
+        x = y;
+        k += 1;
+        from = i + 2;
+        i = i + 2 + n;
+    }
+    Walk {
+        i: i,
+        from: from,
+        k: k,
+        x: x,
+    }
+}
+
+// How many rows there are: by eights, as far as the longest row would be there.
+fn rows(s: &[u8]) -> usize
+    ensures { λ r. ⌜ Counted (now (s .entry)) r ⌝ }
+{
+    if s.len() < ROW {
+        return last_rows(s, 0, 0, 0);
+    }
+    let stop = s.len() - ROW;
+    let first = first_rows(s);
+    let mut i = first.i;
+    let mut from = first.from;
+    let mut k = first.k;
+    let mut x = first.x;
+    while i <= stop {
         let n = s[i] as usize;
         if n == 0 {
             return 33;
@@ -129,24 +227,17 @@ fn rows(s: &[u8]) -> usize
         if 24 < n {
             return 33;
         }
-        let r = room(n);
-        if s.len() - i < r {
+        if 27 < s[i + 1] {
             return 33;
         }
-        let stop = s.len() - r;
-        while i <= stop && s[i] as usize == n {
-            if 27 < s[i + 1] {
-                return 33;
-            }
-            let y = eight(s, i + 2);
-            if !word_after(s, from, x, i + 2, y, n) {
-                return 33;
-            }
-            x = y;
-            k += 1;
-            from = i + 2;
-            i = i + 2 + n;
+        let y = eight(s, i + 2);
+        if !word_soon_after(s, from, x, i + 2, y, n) {
+            return 33;
         }
+        x = y;
+        k += 1;
+        from = i + 2;
+        i = i + 2 + n;
     }
     last_rows(s, i, from, k)
 }
