@@ -1,6 +1,6 @@
 -- `put::put_byte` meets its contract.
 -- Assumes nothing.
-use Rattle.wording.specs.Behind.{behind-byte, behind-none}
+use Rattle.wording.specs.Behind.{behind-byte}
 use borrow.Author.Needs.{needs}
 use Rattle.wording.proofs.put.put_byte.Statement.{statement}
 use Rattle.wording.proofs.put.put_byte.Tie as tie

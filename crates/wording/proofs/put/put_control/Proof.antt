@@ -1,6 +1,6 @@
 -- `put::put_control` meets its contract.
 -- Assumes nothing.
-use Rattle.wording.specs.Behind.{behind-then, behind-none}
+use Rattle.wording.specs.Behind.{behind-then}
 use borrow.Author.Needs.{needs}
 use Rattle.wording.proofs.put.put_control.Statement.{statement}
 use Rattle.wording.proofs.put.put_control.Tie as tie
@@ -30,7 +30,7 @@ same-length : tie.Need-same-length
 same-length c = search needs
 
 returns : tie.Need-returns
-returns c = search (needs, behind-then, behind-none)
+returns c = search (needs, behind-then)
 
 pub put-control-spec : {M : Type 1} → statement M
 put-control-spec =

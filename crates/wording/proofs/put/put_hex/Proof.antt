@@ -15,7 +15,7 @@ abbrev μ-loop : tie.MeasureT-loop
 μ-loop out₀ at s to₀ i₀ out to i = length s - i
 
 loop-holds : tie.Need-loop-holds Inv-loop μ-loop
-loop-holds c = search (needs, behind-then, behind-none)
+loop-holds c = search (needs, behind-none)
 
 shared-slice-read-put-hex-byte : tie.Need-shared-slice-read-put-hex-byte Inv-loop μ-loop
 shared-slice-read-put-hex-byte c = search needs
@@ -30,13 +30,13 @@ loop-less : tie.Need-loop-less Inv-loop μ-loop
 loop-less c = search needs
 
 loop-again : tie.Need-loop-again Inv-loop μ-loop
-loop-again c = search (needs, behind-then, behind-none)
+loop-again c = search (needs, behind-then)
 
 same-length : tie.Need-same-length Inv-loop μ-loop
 same-length c = search needs
 
 returns : tie.Need-returns Inv-loop μ-loop
-returns c = search (needs, behind-then, behind-none)
+returns c = search (needs, behind-then)
 
 pub put-hex-spec : {M : Type 1} → statement M
 put-hex-spec =

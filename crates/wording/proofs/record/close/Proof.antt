@@ -1,7 +1,7 @@
 -- `record::close` meets its contract.
 -- Assumes nothing.
 use borrow.Author.Needs.{needs}
-use Rattle.wording.specs.Behind.{behind-then, behind-none}
+use Rattle.wording.specs.Behind.{behind-then}
 use Rattle.wording.proofs.record.close.Statement.{statement}
 use Rattle.wording.proofs.record.close.Tie as tie
 
@@ -27,7 +27,7 @@ same-length : tie.Need-same-length
 same-length c = search needs
 
 returns : tie.Need-returns
-returns c = search (needs, behind-then, behind-none)
+returns c = search (needs, behind-then)
 
 pub close-spec : {M : Type 1} → statement M
 close-spec =

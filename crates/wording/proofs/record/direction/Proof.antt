@@ -1,7 +1,7 @@
 -- `record::direction` meets its contract.
 -- Assumes nothing.
 use borrow.Author.Needs.{needs}
-use Rattle.wording.specs.Behind.{behind-then, behind-none}
+use Rattle.wording.specs.Behind.{behind-then}
 use Rattle.wording.proofs.record.direction.Statement.{statement}
 use Rattle.wording.proofs.record.direction.Tie as tie
 
@@ -33,7 +33,7 @@ same-length : tie.Need-same-length
 same-length c = search needs
 
 returns : tie.Need-returns
-returns c = search (needs, behind-then, behind-none)
+returns c = search (needs, behind-then)
 
 pub direction-spec : {M : Type 1} → statement M
 direction-spec =

@@ -1,6 +1,6 @@
 -- `record::open_tab` meets its contract.
 -- Assumes nothing.
-use Rattle.wording.specs.Behind.{behind-then, behind-none}
+use Rattle.wording.specs.Behind.{behind-then}
 use borrow.Author.Needs.{needs}
 use Rattle.wording.proofs.record.open_tab.Statement.{statement}
 use Rattle.wording.proofs.record.open_tab.Tie as tie
@@ -21,7 +21,7 @@ same-length : tie.Need-same-length
 same-length c = search needs
 
 returns : tie.Need-returns
-returns c = search (needs, behind-then, behind-none)
+returns c = search (needs, behind-then)
 
 pub open-tab-spec : {M : Type 1} → statement M
 open-tab-spec =

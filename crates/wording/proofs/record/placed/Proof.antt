@@ -1,6 +1,6 @@
 -- `record::placed` meets its contract.
 -- Assumes nothing.
-use Rattle.wording.specs.Behind.{behind-then, behind-none}
+use Rattle.wording.specs.Behind.{behind-then}
 use borrow.Author.Needs.{needs}
 use Rattle.wording.proofs.record.placed.Statement.{statement}
 use Rattle.wording.proofs.record.placed.Tie as tie
@@ -33,7 +33,7 @@ same-length : tie.Need-same-length
 same-length c = search needs
 
 returns : tie.Need-returns
-returns c = search (needs, behind-then, behind-none)
+returns c = search (needs, behind-then)
 
 pub placed-spec : {M : Type 1} → statement M
 placed-spec =

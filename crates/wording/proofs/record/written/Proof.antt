@@ -1,6 +1,6 @@
 -- `record::written` meets its contract.
 -- Assumes nothing.
-use Rattle.wording.specs.Behind.{behind-then, behind-none}
+use Rattle.wording.specs.Behind.{behind-then}
 use borrow.Author.Needs.{needs}
 use Rattle.wording.proofs.record.written.Statement.{statement}
 use Rattle.wording.proofs.record.written.Tie as tie
@@ -21,7 +21,7 @@ same-length : tie.Need-same-length
 same-length c = search needs
 
 returns : tie.Need-returns
-returns c = search (needs, behind-then, behind-none)
+returns c = search (needs, behind-then)
 
 pub written-spec : {M : Type 1} → statement M
 written-spec =

@@ -1,6 +1,6 @@
 -- `refusal::put_refused` meets its contract.
 -- Assumes nothing.
-use Rattle.wording.specs.Behind.{behind-then, behind-none}
+use Rattle.wording.specs.Behind.{behind-then}
 use borrow.Author.Needs.{needs}
 use Rattle.wording.proofs.refusal.put_refused.Statement.{statement}
 use Rattle.wording.proofs.refusal.put_refused.Tie as tie
@@ -39,7 +39,7 @@ same-length-3 : tie.Need-same-length-3
 same-length-3 c = search needs
 
 returns-3 : tie.Need-returns-3
-returns-3 c = search (needs, behind-then, behind-none)
+returns-3 c = search (needs, behind-then)
 
 pub put-refused-spec : {M : Type 1} → statement M
 put-refused-spec =
