@@ -78,7 +78,7 @@ fn put_alias_refusal(out: &mut [u8], at: usize, refusal: u64, word: &[u8]) -> us
 }
 
 // The same as a line of the report, with the line's number.
-pub fn put_alias_line(out: &mut [u8], at: usize, number: u64, refusal: u64, word: &[u8]) -> usize
+fn put_alias_line(out: &mut [u8], at: usize, number: u64, refusal: u64, word: &[u8]) -> usize
     ensures { λ r. ⌜ Behind (now (out .entry)) (now (out .exit)) at r ⌝ }
 {
     let i = put_alias_head(out, at, number, refusal);
@@ -93,4 +93,14 @@ fn put_alias_head(out: &mut [u8], at: usize, number: u64, refusal: u64) -> usize
     let i = put_text(out, at, b"alias ");
     let j = put_number(out, i, number);
     put_number(out, j, refusal)
+}
+
+// What an alias came to: only a refusal is told.
+pub fn put_alias_told(out: &mut [u8], at: usize, number: u64, refusal: u64, word: &[u8]) -> usize
+    ensures { λ r. ⌜ Behind (now (out .entry)) (now (out .exit)) at r ⌝ }
+{
+    if refusal == 0 {
+        return at;
+    }
+    put_alias_line(out, at, number, refusal, word)
 }

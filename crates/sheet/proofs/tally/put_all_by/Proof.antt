@@ -1,18 +1,21 @@
 -- `tally::put_all_by` meets its contract.
 -- Assumes nothing.
+use Rattle.wording.specs.Behind.{Behind}
+use lib.ListN.{length}
+use Prim.Native.Nat.{_-_}
 use borrow.Author.Needs.{needs}
 use Rattle.wording.specs.Behind.{behind-then, behind-none}
 use Rattle.sheet.proofs.tally.put_all_by.Statement.{statement}
 use Rattle.sheet.proofs.tally.put_all_by.Tie as tie
 
 abbrev Inv-loop : tie.InvT-loop
-Inv-loop out₀ at by to₀ i₀ out to i = ?
+Inv-loop out₀ at by to₀ i₀ out to i = Behind out₀ out at to
 
 abbrev μ-loop : tie.MeasureT-loop
-μ-loop out₀ at by to₀ i₀ out to i = ?
+μ-loop out₀ at by to₀ i₀ out to i = length by - i
 
 loop-holds : tie.Need-loop-holds Inv-loop μ-loop
-loop-holds c = search needs
+loop-holds c = search (needs, behind-then, behind-none)
 
 mul-put-by : tie.Need-mul-put-by Inv-loop μ-loop
 mul-put-by c = search needs
@@ -30,7 +33,7 @@ loop-less : tie.Need-loop-less Inv-loop μ-loop
 loop-less c = search needs
 
 loop-again : tie.Need-loop-again Inv-loop μ-loop
-loop-again c = search needs
+loop-again c = search (needs, behind-then, behind-none)
 
 same-length : tie.Need-same-length Inv-loop μ-loop
 same-length c = search needs
