@@ -17,16 +17,8 @@ use sheet::tally::put_tally;
 use spellings_part::put_spellings;
 use wording::put::put_text;
 
-// The line whose prefixes are put in order, where none is given.
-fn put_default(line: &mut [u8]) -> usize {
-    put_text(line, 0, b"3tab vert hor abo bel sp a\\ b")
-}
-
 // The line that is given; one that does not fit counts as long as the buffer.
 fn given(line: &mut [u8]) -> usize {
-    if os::arg_count() < 3 {
-        return put_default(line);
-    }
     let n = os::arg(2, line);
     if os::errno() != 0 {
         return line.len();
@@ -34,11 +26,20 @@ fn given(line: &mut [u8]) -> usize {
     n
 }
 
-// The orders of the line's prefixes.
-fn orders(out: &mut [u8], r: Report) -> Report {
+// The orders of the prefixes of the line that is given.
+fn given_orders(out: &mut [u8], r: Report) -> Report {
     let mut line = io::buffer();
     let n = given(&mut line);
     put_orders(out, r, part(&line, 0, n))
+}
+
+// The orders of the prefixes of a line, or, where none is given, of two: one for tab prefixes, which win, and one for axes and sides.
+fn orders(out: &mut [u8], r: Report) -> Report {
+    if os::arg_count() < 3 {
+        let tabs = put_orders(out, r, b"3tab tab vert abo sp a\\ b");
+        return put_orders(out, tabs, b"vert hor abo bel hor sp a\\ b");
+    }
+    given_orders(out, r)
 }
 
 // Opens the reference sheet: a negative number if it cannot be opened.
