@@ -77,19 +77,13 @@ fn the_reference_sheet() {
     );
 }
 
-/// The alias of a line with two words: the refusal in the report's words.
+/// Adds the alias of a line with two words; the refusal in the report's words.
 fn add(session: &mut Session, word: &[u8], command: &[u8]) -> Result<(), String> {
-    let text = std::str::from_utf8(command)
-        .expect("the file has such a line only where it is refused by 2");
-    let number = match text.parse::<u64>() {
-        Ok(number) if text.bytes().all(|b| b.is_ascii_digit()) => number,
-        _ if text.bytes().all(|b| b.is_ascii_digit()) => u64::MAX,
-        _ => spelled(text).ok_or_else(|| {
-            format!(
-                "10 {}",
-                Session::new().input_cmd(text.split('!').next().unwrap_or(text))
-            )
-        })?,
+    let command = std::str::from_utf8(command).expect("a line that is not UTF-8 is refused before");
+    let number = if command.bytes().all(|b| b.is_ascii_digit()) {
+        command.parse().unwrap_or(u64::MAX)
+    } else {
+        spelled(command).expect("a line with another word is refused before")
     };
     session
         .add_alias(word, number)
