@@ -1,7 +1,7 @@
 -- Laws of CRC-32: one bit by the test on it, and a text from a place on.
 -- Assumes nothing.
-use mathlib.Core.Path.{_≡_, refl, _∙_, ap}
-use mathlib.Core.List.{List, [], _∷_}
+use mathlib.Core.Path.{_≡_}
+use mathlib.Core.List.{List}
 use Prim.Native.Nat.{ℕ, _+_, _<_, _≤_, _/_, _%_}
 use native.Mathlib.Numerals.{add-one}
 use lib.Bits.{bitXor}

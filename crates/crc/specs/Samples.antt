@@ -1,8 +1,7 @@
 -- Worked examples, by computation: the check value that descriptions of CRC-32 give, and no byte.
 -- Assumes nothing.
 use mathlib.Core.Path.{_≡_, refl}
-use mathlib.Core.List.{List, [], _∷_}
-use Prim.Native.Nat.{ℕ}
+use mathlib.Core.List.{[], _∷_}
 use Rattle.crc.specs.Crc.{crcBit, crcByte, crcFrom, crc32}
 
 -- the digits 1 to 9

@@ -13,7 +13,7 @@ use scan::part::part;
 use scan::run::run_end;
 use session::lent::line_in;
 use wording::put::put_text;
-ghost use Prim.Native.Nat.{_<_, _≤_};
+ghost use Prim.Native.Nat.{_≤_};
 ghost use lib.ListN.{length};
 
 // How far a report is: where it ends in the buffer, whether it is summed, and the sum of what was written out before it.

@@ -1,4 +1,4 @@
--- `bit` meets its contract.
+-- `crc::bit` meets its contract.
 -- Assumes nothing.
 use Rattle.crc.specs.CrcLaws.{bit-odd, bit-even}
 use borrow.Author.Needs.{needs}

@@ -1,4 +1,4 @@
--- `byte` meets its contract.
+-- `crc::byte` meets its contract.
 -- Assumes nothing.
 use Rattle.crc.specs.Crc.{crcByte}
 use borrow.Author.Needs.{needs}

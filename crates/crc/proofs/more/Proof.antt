@@ -1,10 +1,10 @@
--- `more` meets its contract.
+-- `crc::more` meets its contract.
 -- Assumes nothing.
 use Rattle.crc.specs.CrcLaws.{from-on, from-end}
 use Rattle.crc.specs.Crc.{crcFrom}
 use lib.ListN.{length, drop}
 use Prim.Native.Nat.{_-_}
-use mathlib.Core.Path.{_≡_, refl, sym, _∙_}
+use mathlib.Core.Path.{_≡_}
 use borrow.Author.Needs.{needs}
 use Rattle.crc.proofs.more.Statement.{statement}
 use Rattle.crc.proofs.more.Tie as tie

@@ -1,4 +1,4 @@
--- `names` meets its contract, by computation.
+-- `spellings::names` meets its contract, by computation.
 -- Assumes nothing.
 use mathlib.Core.Path.{refl}
 use Rattle.words.specs.Words.{names}

@@ -1,4 +1,4 @@
--- `row_at` meets its contract.
+-- `spellings::row_at` meets its contract.
 -- Assumes nothing.
 use Rattle.aliases.specs.RowsLaws.{rows-step}
 use borrow.Author.Needs.{needs}

@@ -1,4 +1,4 @@
--- `spellings` meets its contract, by computation.
+-- `spellings::spellings` meets its contract, by computation.
 -- Assumes nothing.
 use mathlib.Core.Path.{refl}
 use Rattle.words.specs.Words.{shipped, aliases, names}

@@ -1,4 +1,4 @@
--- `word_of` meets its contract.
+-- `spellings::word_of` meets its contract.
 -- Assumes nothing.
 use native.Mathlib.Omega.{arith}
 use Rattle.scan.specs.Scan.{partOf}
@@ -9,7 +9,7 @@ use Rattle.aliases.specs.RowsLaws.{rowsAt, rows-start, rows-end}
 use Rattle.aliases.specs.Rows.{rowsOf}
 use lib.ListN.{length}
 use Prim.Native.Nat.{_-_}
-use mathlib.Core.Path.{_≡_, refl, sym, _∙_, ap}
+use mathlib.Core.Path.{_≡_}
 use borrow.Author.Needs.{needs}
 use Rattle.spellings.proofs.word_of.Statement.{statement}
 use Rattle.spellings.proofs.word_of.Tie as tie

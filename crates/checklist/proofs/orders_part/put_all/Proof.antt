@@ -1,4 +1,4 @@
--- `orders_part::put_all` meets its contract.
+-- `checklist::orders_part::put_all` is safe and ends.
 -- Assumes nothing.
 use lib.ListN.{length}
 use Prim.Native.Nat.{_-_}

@@ -1,4 +1,4 @@
--- `spellings_part::put_spellings` meets its contract.
+-- `checklist::spellings_part::put_spellings` is safe and ends.
 -- Assumes nothing.
 use lib.ListN.{length}
 use Prim.Native.Nat.{_-_}

@@ -1,4 +1,4 @@
--- `compose::last_ones` meets its contract.
+-- `orders::compose::last_ones` is safe and ends.
 -- Assumes nothing.
 use borrow.Author.Needs.{needs}
 use Rattle.orders.proofs.compose.last_ones.Statement.{statement}

@@ -1,4 +1,4 @@
--- `compose::put_composed` meets its contract.
+-- `orders::compose::put_composed` is safe and ends.
 -- Assumes nothing.
 use lib.ListN.{length}
 use Prim.Native.Nat.{_-_}

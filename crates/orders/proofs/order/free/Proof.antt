@@ -1,4 +1,4 @@
--- `order::free` meets its contract.
+-- `orders::order::free` is safe and ends.
 -- Assumes nothing.
 use Prim.Native.Nat.{_-_, _≤_}
 use borrow.Author.Needs.{needs}

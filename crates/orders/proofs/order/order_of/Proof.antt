@@ -1,4 +1,4 @@
--- `order::order_of` meets its contract.
+-- `orders::order::order_of` is safe and ends.
 -- Assumes nothing.
 use Prim.Native.Nat.{_-_}
 use borrow.Author.Needs.{needs}

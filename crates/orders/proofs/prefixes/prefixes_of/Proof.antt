@@ -1,4 +1,4 @@
--- `prefixes::prefixes_of` meets its contract.
+-- `orders::prefixes::prefixes_of` is safe and ends.
 -- Assumes nothing.
 use borrow.Author.Needs.{needs}
 use Rattle.orders.proofs.prefixes.prefixes_of.Statement.{statement}

@@ -1,4 +1,4 @@
--- `alias::field_end` meets its contract.
+-- `sheet::alias::field_end` is safe and ends.
 -- Assumes nothing.
 use lib.ListN.{length}
 use Prim.Native.Nat.{_-_}

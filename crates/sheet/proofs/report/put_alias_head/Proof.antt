@@ -1,6 +1,6 @@
--- `report::put_alias_head` meets its contract.
+-- `sheet::report::put_alias_head` meets its contract.
 -- Assumes nothing.
-use Rattle.wording.specs.Behind.{behind-then, behind-none}
+use Rattle.wording.specs.Behind.{behind-then}
 use borrow.Author.Needs.{needs}
 use Rattle.sheet.proofs.report.put_alias_head.Statement.{statement}
 use Rattle.sheet.proofs.report.put_alias_head.Tie as tie
@@ -21,7 +21,7 @@ same-length : tie.Need-same-length
 same-length c = search needs
 
 returns : tie.Need-returns
-returns c = search (needs, behind-then, behind-none)
+returns c = search (needs, behind-then)
 
 pub put-alias-head-spec : {M : Type 1} → statement M
 put-alias-head-spec =

@@ -1,6 +1,6 @@
--- `report::put_alias_refusal` meets its contract.
+-- `sheet::report::put_alias_refusal` meets its contract.
 -- Assumes nothing.
-use Rattle.wording.specs.Behind.{behind-then, behind-none}
+use Rattle.wording.specs.Behind.{behind-then}
 use borrow.Author.Needs.{needs}
 use Rattle.sheet.proofs.report.put_alias_refusal.Statement.{statement}
 use Rattle.sheet.proofs.report.put_alias_refusal.Tie as tie
@@ -27,7 +27,7 @@ same-length-2 : tie.Need-same-length-2
 same-length-2 c = search needs
 
 returns-2 : tie.Need-returns-2
-returns-2 c = search (needs, behind-then, behind-none)
+returns-2 c = search (needs, behind-then)
 
 pub put-alias-refusal-spec : {M : Type 1} → statement M
 put-alias-refusal-spec =

@@ -1,6 +1,6 @@
--- `report::put_reply` meets its contract.
+-- `sheet::report::put_reply` meets its contract.
 -- Assumes nothing.
-use Rattle.wording.specs.Behind.{behind-then, behind-none}
+use Rattle.wording.specs.Behind.{behind-then}
 use borrow.Author.Needs.{needs}
 use Rattle.sheet.proofs.report.put_reply.Statement.{statement}
 use Rattle.sheet.proofs.report.put_reply.Tie as tie
@@ -18,7 +18,7 @@ same-length : tie.Need-same-length
 same-length c = search needs
 
 returns : tie.Need-returns
-returns c = search (needs, behind-then, behind-none)
+returns c = search (needs, behind-then)
 
 pub put-reply-spec : {M : Type 1} → statement M
 put-reply-spec =

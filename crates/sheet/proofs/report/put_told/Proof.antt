@@ -1,6 +1,6 @@
--- `report::put_told` meets its contract.
+-- `sheet::report::put_told` meets its contract.
 -- Assumes nothing.
-use Rattle.wording.specs.Behind.{behind-then, behind-none}
+use Rattle.wording.specs.Behind.{behind-then}
 use borrow.Author.Needs.{needs}
 use Rattle.sheet.proofs.report.put_told.Statement.{statement}
 use Rattle.sheet.proofs.report.put_told.Tie as tie
@@ -18,7 +18,7 @@ same-length : tie.Need-same-length
 same-length c = search needs
 
 returns : tie.Need-returns
-returns c = search (needs, behind-then, behind-none)
+returns c = search (needs, behind-then)
 
 pub put-told-spec : {M : Type 1} → statement M
 put-told-spec =

@@ -1,4 +1,4 @@
--- `sheet::line_end` meets its contract.
+-- `sheet::sheet::line_end` meets its contract.
 -- Assumes nothing.
 use Rattle.scan.specs.Bytes.{isKind}
 use Rattle.scan.specs.declared.classes.Kind.{Kind}

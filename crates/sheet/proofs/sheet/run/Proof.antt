@@ -1,4 +1,4 @@
--- `sheet::run` meets its contract.
+-- `sheet::sheet::run` is safe and ends.
 -- Assumes nothing.
 use lib.ListN.{length}
 use mathlib.Core.Path.{_≡_}

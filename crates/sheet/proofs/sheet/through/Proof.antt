@@ -1,4 +1,4 @@
--- `sheet::through` meets its contract.
+-- `sheet::sheet::through` is safe and ends.
 -- Assumes nothing.
 use lib.ListN.{length}
 use Prim.Native.Nat.{_-_}

@@ -1,4 +1,4 @@
--- `tally::put_all_by` meets its contract.
+-- `sheet::tally::put_all_by` meets its contract.
 -- Assumes nothing.
 use Rattle.wording.specs.Behind.{Behind}
 use lib.ListN.{length}
@@ -15,7 +15,7 @@ abbrev μ-loop : tie.MeasureT-loop
 μ-loop out₀ at by to₀ i₀ out to i = length by - i
 
 loop-holds : tie.Need-loop-holds Inv-loop μ-loop
-loop-holds c = search (needs, behind-then, behind-none)
+loop-holds c = search (needs, behind-none)
 
 mul-put-by : tie.Need-mul-put-by Inv-loop μ-loop
 mul-put-by c = search needs
@@ -33,13 +33,13 @@ loop-less : tie.Need-loop-less Inv-loop μ-loop
 loop-less c = search needs
 
 loop-again : tie.Need-loop-again Inv-loop μ-loop
-loop-again c = search (needs, behind-then, behind-none)
+loop-again c = search (needs, behind-then)
 
 same-length : tie.Need-same-length Inv-loop μ-loop
 same-length c = search needs
 
 returns : tie.Need-returns Inv-loop μ-loop
-returns c = search (needs, behind-then, behind-none)
+returns c = search (needs, behind-then)
 
 pub put-all-by-spec : {M : Type 1} → statement M
 put-all-by-spec =

@@ -1,6 +1,6 @@
--- `tally::put_by` meets its contract.
+-- `sheet::tally::put_by` meets its contract.
 -- Assumes nothing.
-use Rattle.wording.specs.Behind.{behind-then, behind-none}
+use Rattle.wording.specs.Behind.{behind-then}
 use borrow.Author.Needs.{needs}
 use Rattle.sheet.proofs.tally.put_by.Statement.{statement}
 use Rattle.sheet.proofs.tally.put_by.Tie as tie
@@ -27,7 +27,7 @@ same-length : tie.Need-same-length
 same-length c = search needs
 
 returns-2 : tie.Need-returns-2
-returns-2 c = search (needs, behind-then, behind-none)
+returns-2 c = search (needs, behind-then)
 
 pub put-by-spec : {M : Type 1} → statement M
 put-by-spec =

@@ -1,6 +1,6 @@
--- `tally::put_lines` meets its contract.
+-- `sheet::tally::put_lines` meets its contract.
 -- Assumes nothing.
-use Rattle.wording.specs.Behind.{behind-then, behind-none}
+use Rattle.wording.specs.Behind.{behind-then}
 use borrow.Author.Needs.{needs}
 use Rattle.sheet.proofs.tally.put_lines.Statement.{statement}
 use Rattle.sheet.proofs.tally.put_lines.Tie as tie
@@ -27,7 +27,7 @@ same-length : tie.Need-same-length
 same-length c = search needs
 
 returns : tie.Need-returns
-returns c = search (needs, behind-then, behind-none)
+returns c = search (needs, behind-then)
 
 pub put-lines-spec : {M : Type 1} → statement M
 put-lines-spec =

@@ -1,6 +1,6 @@
--- `tally::put_tally` meets its contract.
+-- `sheet::tally::put_tally` meets its contract.
 -- Assumes nothing.
-use Rattle.wording.specs.Behind.{behind-then, behind-none}
+use Rattle.wording.specs.Behind.{behind-then}
 use borrow.Author.Needs.{needs}
 use Rattle.sheet.proofs.tally.put_tally.Statement.{statement}
 use Rattle.sheet.proofs.tally.put_tally.Tie as tie
@@ -24,7 +24,7 @@ same-length : tie.Need-same-length
 same-length c = search needs
 
 returns : tie.Need-returns
-returns c = search (needs, behind-then, behind-none)
+returns c = search (needs, behind-then)
 
 pub put-tally-spec : {M : Type 1} → statement M
 put-tally-spec =

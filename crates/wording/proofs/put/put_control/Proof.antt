@@ -1,4 +1,4 @@
--- `put::put_control` meets its contract.
+-- `wording::put::put_control` meets its contract.
 -- Assumes nothing.
 use Rattle.wording.specs.Behind.{behind-then}
 use borrow.Author.Needs.{needs}

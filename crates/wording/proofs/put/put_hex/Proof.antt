@@ -1,4 +1,4 @@
--- `put::put_hex` meets its contract.
+-- `wording::put::put_hex` meets its contract.
 -- Assumes nothing.
 use borrow.Author.Needs.{needs}
 use Rattle.wording.specs.Behind.{Behind}

@@ -1,4 +1,4 @@
--- `put::put_hex_byte` meets its contract.
+-- `wording::put::put_hex_byte` meets its contract.
 -- Assumes nothing.
 use Rattle.wording.specs.Behind.{behind-then}
 use borrow.Author.Needs.{needs}

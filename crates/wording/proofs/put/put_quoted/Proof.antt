@@ -1,4 +1,4 @@
--- `put::put_quoted` meets its contract.
+-- `wording::put::put_quoted` meets its contract.
 -- Assumes nothing.
 use Rattle.wording.specs.Behind.{behind-then, behind-none}
 use borrow.Author.Needs.{needs}

@@ -1,4 +1,4 @@
--- `record::change` meets its contract.
+-- `wording::record::change` meets its contract.
 -- Assumes nothing.
 use Rattle.wording.specs.Behind.{behind-then, behind-none}
 use borrow.Author.Needs.{needs}

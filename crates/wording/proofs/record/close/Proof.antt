@@ -1,4 +1,4 @@
--- `record::close` meets its contract.
+-- `wording::record::close` meets its contract.
 -- Assumes nothing.
 use borrow.Author.Needs.{needs}
 use Rattle.wording.specs.Behind.{behind-then}

@@ -1,4 +1,4 @@
--- `record::decimal_behind` meets its contract.
+-- `wording::record::decimal_behind` meets its contract.
 -- Assumes nothing.
 use Rattle.wording.specs.Behind.{behind-then}
 use borrow.Author.Needs.{needs}

@@ -1,4 +1,4 @@
--- `record::focus_behind` meets its contract.
+-- `wording::record::focus_behind` meets its contract.
 -- Assumes nothing.
 use borrow.Author.Needs.{needs}
 use Rattle.wording.specs.Behind.{behind-then}

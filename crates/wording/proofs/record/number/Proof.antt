@@ -1,4 +1,4 @@
--- `record::number` meets its contract.
+-- `wording::record::number` is safe and ends.
 -- Assumes nothing.
 use borrow.Author.Needs.{needs}
 use Prim.Native.Nat.{_-_, _≤_}

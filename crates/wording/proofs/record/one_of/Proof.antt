@@ -1,4 +1,4 @@
--- `record::one_of` meets its contract.
+-- `wording::record::one_of` meets its contract.
 -- Assumes nothing.
 use Rattle.wording.specs.Behind.{behind-then, behind-none}
 use borrow.Author.Needs.{needs}

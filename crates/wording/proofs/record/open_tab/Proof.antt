@@ -1,4 +1,4 @@
--- `record::open_tab` meets its contract.
+-- `wording::record::open_tab` meets its contract.
 -- Assumes nothing.
 use Rattle.wording.specs.Behind.{behind-then}
 use borrow.Author.Needs.{needs}

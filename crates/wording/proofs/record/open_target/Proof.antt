@@ -1,4 +1,4 @@
--- `record::open_target` meets its contract.
+-- `wording::record::open_target` meets its contract.
 -- Assumes nothing.
 use Rattle.wording.specs.Behind.{behind-then, behind-none}
 use borrow.Author.Needs.{needs}

@@ -1,4 +1,4 @@
--- `record::put_record` meets its contract.
+-- `wording::record::put_record` meets its contract.
 -- Assumes nothing.
 use Rattle.wording.specs.Behind.{behind-again}
 use borrow.Author.Needs.{needs}

@@ -1,4 +1,4 @@
--- `record::resize` meets its contract.
+-- `wording::record::resize` meets its contract.
 -- Assumes nothing.
 use Rattle.wording.specs.Behind.{behind-then}
 use borrow.Author.Needs.{needs}

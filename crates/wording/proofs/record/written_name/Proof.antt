@@ -1,4 +1,4 @@
--- `record::written_name` meets its contract.
+-- `wording::record::written_name` meets its contract.
 -- Assumes nothing.
 use Rattle.wording.specs.Behind.{behind-then, behind-none}
 use borrow.Author.Needs.{needs}

@@ -1,4 +1,4 @@
--- `refusal::put_refused` meets its contract.
+-- `wording::refusal::put_refused` meets its contract.
 -- Assumes nothing.
 use Rattle.wording.specs.Behind.{behind-then}
 use borrow.Author.Needs.{needs}

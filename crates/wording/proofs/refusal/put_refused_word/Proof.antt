@@ -1,4 +1,4 @@
--- `refusal::put_refused_word` meets its contract.
+-- `wording::refusal::put_refused_word` meets its contract.
 -- Assumes nothing.
 use Rattle.wording.specs.Behind.{behind-then}
 use borrow.Author.Needs.{needs}
