@@ -184,6 +184,20 @@ impl fmt::Debug for Session {
 }
 
 /// What a line answers.
+///
+/// [`Display`](std::fmt::Display) says it as the console's reports do.
+///
+/// ```
+/// use pagyolint::Session;
+///
+/// let mut session = Session::new();
+/// assert_eq!(session.input_cmd("+5-3close").to_string(), "close window previous 2");
+/// assert_eq!(session.input_cmd("foo").to_string(), r#"no command has this word: "foo""#);
+/// assert_eq!(
+///     session.input_cmd("vert %close").to_string(),
+///     "the command does not take this range, in reading 2"
+/// );
+/// ```
 #[derive(Clone, Debug, PartialEq, Eq)]
 pub struct Answer {
     /// How many readings were begun: one on the line, and one on the argument of each prefix accepted in it. It is 0 for a line

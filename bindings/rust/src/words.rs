@@ -1,4 +1,5 @@
-//! All words in which the crate says actions and refusals.
+//! All words in which the crate says actions and refusals. The console's programs have the same words (crates/wording), and tests/reports.rs
+//! holds the two to one another.
 //!
 //! Two actions never have the same words: names stand in quotes, and every part of the record has a word or a number of its own,
 //! or is known by having none.
@@ -10,7 +11,7 @@ use crate::command::Command;
 use crate::flags::{CloseFlags, OpenFlags, WriteFlags};
 use crate::record::NotARecord;
 use crate::refusal::Refusal;
-use crate::session::{Accepted, Refused};
+use crate::session::{Accepted, Answer, Refused};
 use std::fmt::{Display, Formatter, Result};
 
 impl Display for Refusal {
@@ -39,6 +40,18 @@ impl Display for Refused {
         match &self.word {
             Some(word) => write!(f, "{}: {}", self.refusal, Quoted(word)),
             None => self.refusal.fmt(f),
+        }
+    }
+}
+
+/// What a line comes to, as the console's reports have it: a refusal is told with the word that no command has, or else with the reading
+/// that was refused, where one was begun.
+impl Display for Answer {
+    fn fmt(&self, f: &mut Formatter<'_>) -> Result {
+        match &self.outcome {
+            Ok(accepted) => accepted.fmt(f),
+            Err(refused) if refused.word.is_some() || self.readings == 0 => refused.fmt(f),
+            Err(refused) => write!(f, "{refused}, in reading {}", self.readings),
         }
     }
 }

@@ -1,0 +1,61 @@
+-- `checklist::orders_part::put_all` is safe and ends.
+-- Assumes nothing.
+use lib.ListN.{length}
+use Prim.Native.Nat.{_-_}
+use mathlib.Core.Path.{_≡_}
+use borrow.Author.Needs.{needs}
+use Rattle.checklist.proofs.orders_part.put_all.Statement.{statement}
+use Rattle.checklist.proofs.orders_part.put_all.Tie as tie
+
+abbrev Inv-loop : tie.InvT-loop
+Inv-loop out₀ line p n s₀ i₀ out s i = length out ≡ length out₀
+
+abbrev μ-loop : tie.MeasureT-loop
+μ-loop out₀ line p n s₀ i₀ out s i = n - i
+
+orders-of-requires : tie.Need-orders-of-requires Inv-loop μ-loop
+orders-of-requires c κs = search needs
+
+loop-holds : tie.Need-loop-holds Inv-loop μ-loop
+loop-holds c = search needs
+
+turn-requires : tie.Need-turn-requires Inv-loop μ-loop
+turn-requires c κs = search needs
+
+add-i : tie.Need-add-i Inv-loop μ-loop
+add-i c = search needs
+
+loop-less : tie.Need-loop-less Inv-loop μ-loop
+loop-less c = search needs
+
+loop-again : tie.Need-loop-again Inv-loop μ-loop
+loop-again c = search needs
+
+put-total-requires : tie.Need-put-total-requires Inv-loop μ-loop
+put-total-requires c κs = search needs
+
+up-to-requires : tie.Need-up-to-requires Inv-loop μ-loop
+up-to-requires c κs = search needs
+
+same-length : tie.Need-same-length Inv-loop μ-loop
+same-length c = search needs
+
+returns : tie.Need-returns Inv-loop μ-loop
+returns c = search needs
+
+pub put-all-spec : {M : Type 1} → statement M
+put-all-spec =
+    tie.close
+    (tie.spec
+    Inv-loop
+    μ-loop
+    orders-of-requires
+    loop-holds
+    turn-requires
+    add-i
+    loop-less
+    loop-again
+    put-total-requires
+    up-to-requires
+    same-length
+    returns)

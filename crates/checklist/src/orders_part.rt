@@ -1,0 +1,99 @@
+// The line with its prefixes in every order, and how many orders agree with what the last prefixes say.
+use orders::order::orders_of;
+use orders::prefixes::Prefixes;
+use orders::prefixes::prefixes_of;
+use orders::told::put_told;
+use sheet::sheet::Report;
+use sheet::sheet::flush_full;
+use sheet::sheet::up_to;
+use utf8::utf8::is_utf8;
+use wording::put::put_byte;
+use wording::put::put_decimal;
+use wording::put::put_quoted;
+use wording::put::put_text;
+
+// How far the orders are told, and how many agree.
+struct Orders {
+    report: Report,
+    agree: u64,
+}
+
+fn one_more(n: u64, is: bool) -> u64 {
+    if is {
+        return std::num::wrapping_add_u64(n, 1);
+    }
+    n
+}
+
+// One order.
+fn turn(out: &mut [u8], line: &[u8], p: Prefixes, number: u64, s: Orders) -> Orders {
+    let report = s.report;
+    let told = put_told(out, report.at, line, p, number);
+    Orders {
+        report: flush_full(out, up_to(report, told.at)),
+        agree: one_more(s.agree, told.agrees),
+    }
+}
+
+// How many orders there are, and how many agree.
+fn put_total(out: &mut [u8], at: usize, orders: u64, agree: u64) -> usize {
+    let i = put_decimal(out, at, orders);
+    let j = put_text(out, i, b" orders, ");
+    let k = put_decimal(out, j, agree);
+    put_text(out, k, b" agree\n")
+}
+
+// All orders of the prefixes.
+fn put_all(out: &mut [u8], r: Report, line: &[u8], p: Prefixes) -> Report {
+    let n = orders_of(p.count);
+    let mut s = Orders {
+        report: r,
+        agree: 0,
+    };
+    let mut i: u64 = 0;
+    while i < n {
+        s = turn(out, line, p, i, s);
+        i += 1;
+    }
+    let report = s.report;
+    up_to(report, put_total(out, report.at, n, s.agree))
+}
+
+// The orders of a line whose prefixes are found. With none there is one order, and more than five are not put in order.
+fn put_found(out: &mut [u8], r: Report, line: &[u8], p: Prefixes) -> Report {
+    if p.count == 0 {
+        let at = put_text(out, r.at, b"the line has no prefix\n");
+        return put_all(out, up_to(r, at), line, p);
+    }
+    if p.count > 5 {
+        return up_to(
+            r,
+            put_text(out, r.at, b"the line has more than five prefixes\n"),
+        );
+    }
+    put_all(out, r, line, p)
+}
+
+// A line with five prefixes may gain five spaces.
+pub fn put_orders(out: &mut [u8], r: Report, line: &[u8]) -> Report {
+    if 1019 < line.len() {
+        return up_to(
+            r,
+            put_text(
+                out,
+                r.at,
+                b"the line is longer than 1019 bytes: no orders\n",
+            ),
+        );
+    }
+    if !is_utf8(line) {
+        return up_to(
+            r,
+            put_text(out, r.at, b"the line is not UTF-8: no orders\n"),
+        );
+    }
+    let i = put_text(out, r.at, b"orders of the prefixes of ");
+    let j = put_quoted(out, i, line);
+    let k = put_byte(out, j, 0x0A);
+    put_found(out, up_to(r, k), line, prefixes_of(line))
+}

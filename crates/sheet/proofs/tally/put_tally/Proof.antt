@@ -1,0 +1,39 @@
+-- `sheet::tally::put_tally` meets its contract.
+-- Assumes nothing.
+use Rattle.wording.specs.Behind.{behind-then}
+use borrow.Author.Needs.{needs}
+use Rattle.sheet.proofs.tally.put_tally.Statement.{statement}
+use Rattle.sheet.proofs.tally.put_tally.Tie as tie
+
+put-lines-requires : tie.Need-put-lines-requires
+put-lines-requires c κs = search needs
+
+slice-aggregate-put-count : tie.Need-slice-aggregate-put-count
+slice-aggregate-put-count c = search needs
+
+put-count-requires : tie.Need-put-count-requires
+put-count-requires c κs = search needs
+
+slice-aggregate-put-end : tie.Need-slice-aggregate-put-end
+slice-aggregate-put-end c = search needs
+
+put-end-requires : tie.Need-put-end-requires
+put-end-requires c κs = search needs
+
+same-length : tie.Need-same-length
+same-length c = search needs
+
+returns : tie.Need-returns
+returns c = search (needs, behind-then)
+
+pub put-tally-spec : {M : Type 1} → statement M
+put-tally-spec =
+    tie.close
+    (tie.spec
+    put-lines-requires
+    slice-aggregate-put-count
+    put-count-requires
+    slice-aggregate-put-end
+    put-end-requires
+    same-length
+    returns)

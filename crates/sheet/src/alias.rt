@@ -1,0 +1,95 @@
+// One line of an alias file: a word and a command, by its number or by one of its spellings, with spaces about them.
+use blocks::run::skip_spaces;
+use blocks::test::not_space;
+use scan::classes::classes;
+use scan::decimal::Decimal;
+use scan::decimal::digits;
+use scan::part::part;
+use session::lent::alias_in;
+use utf8::utf8::is_utf8;
+use words::words::Named;
+use words::words::lookup;
+
+// What a line came to: 0 or a refusal, and for 10 where the word stands that no command has.
+pub struct Added {
+    pub refusal: u64,
+    pub start: usize,
+    pub stop: usize,
+}
+
+fn plain(refusal: u64) -> Added {
+    Added {
+        refusal: refusal,
+        start: 0,
+        stop: 0,
+    }
+}
+
+// Where the bytes that are no spaces end.
+fn field_end(s: &[u8], at: usize) -> usize {
+    let mut i = at;
+    while i < s.len() {
+        if !not_space(s[i]) {
+            return i;
+        }
+        i += 1;
+    }
+    i
+}
+
+// The command that a text names: digits are its number, and anything else is one of its spellings. A number that is too large for 64
+// bits is above 27 like others.
+fn command_of(s: &[u8]) -> Named {
+    let table = classes();
+    match digits(s, 0, &table) {
+        Decimal::Absent => lookup(s),
+        Decimal::Value(n, e) => {
+            if e == s.len() {
+                return Named::Command(n);
+            }
+            Named::Unknown
+        }
+        Decimal::TooLarge => Named::Command(u64::MAX),
+    }
+}
+
+// The line's word and command, as they stand.
+fn add(session: &mut [u8], line: &[u8], w: usize, e: usize, c: usize, f: usize) -> Added {
+    match command_of(part(line, c, f)) {
+        Named::Command(n) => plain(alias_in(session, part(line, w, e), n)),
+        Named::Unknown => Added {
+            refusal: 10,
+            start: c,
+            stop: f,
+        },
+    }
+}
+
+// A line of UTF-8. One of spaces alone adds nothing.
+fn read(session: &mut [u8], line: &[u8]) -> Added {
+    let table = classes();
+    let n = line.len();
+    let w = skip_spaces(line, 0, &table);
+    if n <= w {
+        return plain(0);
+    }
+    let e = field_end(line, w);
+    let c = skip_spaces(line, e, &table);
+    let f = field_end(line, c);
+    if n <= c || skip_spaces(line, f, &table) != n {
+        return plain(3);
+    }
+    add(session, line, w, e, c, f)
+}
+
+// Adds the alias of a line. Refused are, in this order: a line above 1,024 bytes or not UTF-8 (1, 2), one that is not two words (3), a
+// command that there is not (10), and what the session refuses (8, 9, 13).
+pub fn alias_line(session: &mut [u8], line: &[u8]) -> Added {
+    if 1024 < line.len() {
+        return plain(1);
+    }
+    if !is_utf8(line) {
+        return plain(2);
+    }
+    read(session, line)
+}

@@ -1,0 +1,133 @@
+// How many lines there were, and what they came to.
+use run::reply::LineReply;
+use scan::part::byte_at;
+use wording::put::put_byte;
+use wording::put::put_decimal;
+use wording::put::put_text;
+ghost use Rattle.wording.specs.Behind.{Behind};
+
+// Lines, those with an action, those that give nothing, those refused, and the refused ones by number.
+pub struct Tally {
+    pub lines: u64,
+    pub actions: u64,
+    pub nothing: u64,
+    pub refused: u64,
+    pub by: [u64; 14],
+}
+
+pub fn none() -> Tally {
+    Tally {
+        lines: 0,
+        actions: 0,
+        nothing: 0,
+        refused: 0,
+        by: [0; 14],
+    }
+}
+
+fn one_more(n: u64) -> u64 {
+    std::num::wrapping_add_u64(n, 1)
+}
+
+// A line that is accepted: the kind of its record is 0 for nothing.
+fn accepted(t: Tally, kind: u8) -> Tally {
+    let by = t.by;
+    if kind == 0 {
+        return Tally {
+            lines: one_more(t.lines),
+            actions: t.actions,
+            nothing: one_more(t.nothing),
+            refused: t.refused,
+            by: by,
+        };
+    }
+    Tally {
+        lines: one_more(t.lines),
+        actions: one_more(t.actions),
+        nothing: t.nothing,
+        refused: t.refused,
+        by: by,
+    }
+}
+
+fn refused(t: Tally, refusal: u64) -> Tally {
+    let mut by = t.by;
+    if refusal < 14 {
+        let i = refusal as usize;
+        by[i] = one_more(by[i]);
+    }
+    Tally {
+        lines: one_more(t.lines),
+        actions: t.actions,
+        nothing: t.nothing,
+        refused: one_more(t.refused),
+        by: by,
+    }
+}
+
+// One line more.
+pub fn tallied(t: Tally, r: LineReply, written: &[u8]) -> Tally {
+    if r.refusal == 0 {
+        return accepted(t, byte_at(written, 0));
+    }
+    refused(t, r.refusal)
+}
+
+// A count and what is counted.
+fn put_count(out: &mut [u8], at: usize, n: u64, what: &[u8]) -> usize
+    ensures { λ r. ⌜ Behind (now (out .entry)) (now (out .exit)) at r ⌝ }
+{
+    let i = put_decimal(out, at, n);
+    put_text(out, i, what)
+}
+
+// How many lines were refused by a number, if any.
+fn put_by(out: &mut [u8], at: usize, n: u64, count: u64) -> usize
+    ensures { λ r. ⌜ Behind (now (out .entry)) (now (out .exit)) at r ⌝ }
+{
+    if count == 0 {
+        return at;
+    }
+    let i = put_text(out, at, b", ");
+    let j = put_count(out, i, count, b" by ");
+    put_decimal(out, j, n)
+}
+
+// The refused lines by number.
+fn put_all_by(out: &mut [u8], at: usize, by: &[u64]) -> usize
+    ensures { λ r. ⌜ Behind (now (out .entry)) (now (out .exit)) at r ⌝ }
+{
+    let mut to = at;
+    let mut i: usize = 0;
+    while i < by.len() {
+        to = put_by(out, to, i as u64, by[i]);
+        i += 1;
+    }
+    to
+}
+
+// Lines, actions and those that give nothing.
+fn put_lines(out: &mut [u8], at: usize, t: Tally) -> usize
+    ensures { λ r. ⌜ Behind (now (out .entry)) (now (out .exit)) at r ⌝ }
+{
+    let i = put_count(out, at, t.lines, b" lines: ");
+    let j = put_count(out, i, t.actions, b" actions, ");
+    put_count(out, j, t.nothing, b" nothing, ")
+}
+
+// The line that sums up.
+pub fn put_tally(out: &mut [u8], at: usize, t: Tally) -> usize
+    ensures { λ r. ⌜ Behind (now (out .entry)) (now (out .exit)) at r ⌝ }
+{
+    let by = t.by;
+    let i = put_lines(out, at, t);
+    let j = put_count(out, i, t.refused, b" refused");
+    put_end(out, j, &by)
+}
+
+fn put_end(out: &mut [u8], at: usize, by: &[u64]) -> usize
+    ensures { λ r. ⌜ Behind (now (out .entry)) (now (out .exit)) at r ⌝ }
+{
+    let i = put_all_by(out, at, by);
+    put_byte(out, i, 0x0A)
+}

@@ -1,0 +1,47 @@
+-- `wording::put::put_control` meets its contract.
+-- Assumes nothing.
+use Rattle.wording.specs.Behind.{behind-then}
+use borrow.Author.Needs.{needs}
+use Rattle.wording.proofs.put.put_control.Statement.{statement}
+use Rattle.wording.proofs.put.put_control.Tie as tie
+
+hex-requires : tie.Need-hex-requires
+hex-requires c κs = search needs
+
+slice-aggregate-put-text : tie.Need-slice-aggregate-put-text
+slice-aggregate-put-text c = search needs
+
+put-text-requires : tie.Need-put-text-requires
+put-text-requires c κs = search needs
+
+array-share-prefix-digits : tie.Need-array-share-prefix-digits
+array-share-prefix-digits c = search needs
+
+slice-aggregate-put-text-2 : tie.Need-slice-aggregate-put-text-2
+slice-aggregate-put-text-2 c = search needs
+
+put-text-requires-2 : tie.Need-put-text-requires-2
+put-text-requires-2 c κs = search needs
+
+put-byte-requires : tie.Need-put-byte-requires
+put-byte-requires c κs = search needs
+
+same-length : tie.Need-same-length
+same-length c = search needs
+
+returns : tie.Need-returns
+returns c = search (needs, behind-then)
+
+pub put-control-spec : {M : Type 1} → statement M
+put-control-spec =
+    tie.close
+    (tie.spec
+    hex-requires
+    slice-aggregate-put-text
+    put-text-requires
+    array-share-prefix-digits
+    slice-aggregate-put-text-2
+    put-text-requires-2
+    put-byte-requires
+    same-length
+    returns)

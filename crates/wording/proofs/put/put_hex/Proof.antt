@@ -1,0 +1,54 @@
+-- `wording::put::put_hex` meets its contract.
+-- Assumes nothing.
+use borrow.Author.Needs.{needs}
+use Rattle.wording.specs.Behind.{Behind}
+use lib.ListN.{length}
+use Prim.Native.Nat.{_-_}
+use Rattle.wording.specs.Behind.{behind-then, behind-none}
+use Rattle.wording.proofs.put.put_hex.Statement.{statement}
+use Rattle.wording.proofs.put.put_hex.Tie as tie
+
+abbrev Inv-loop : tie.InvT-loop
+Inv-loop out₀ at s to₀ i₀ out to i = Behind out₀ out at to
+
+abbrev μ-loop : tie.MeasureT-loop
+μ-loop out₀ at s to₀ i₀ out to i = length s - i
+
+loop-holds : tie.Need-loop-holds Inv-loop μ-loop
+loop-holds c = search (needs, behind-none)
+
+shared-slice-read-put-hex-byte : tie.Need-shared-slice-read-put-hex-byte Inv-loop μ-loop
+shared-slice-read-put-hex-byte c = search needs
+
+put-hex-byte-requires : tie.Need-put-hex-byte-requires Inv-loop μ-loop
+put-hex-byte-requires c κs = search needs
+
+add-i : tie.Need-add-i Inv-loop μ-loop
+add-i c = search needs
+
+loop-less : tie.Need-loop-less Inv-loop μ-loop
+loop-less c = search needs
+
+loop-again : tie.Need-loop-again Inv-loop μ-loop
+loop-again c = search (needs, behind-then)
+
+same-length : tie.Need-same-length Inv-loop μ-loop
+same-length c = search needs
+
+returns : tie.Need-returns Inv-loop μ-loop
+returns c = search (needs, behind-then)
+
+pub put-hex-spec : {M : Type 1} → statement M
+put-hex-spec =
+    tie.close
+    (tie.spec
+    Inv-loop
+    μ-loop
+    loop-holds
+    shared-slice-read-put-hex-byte
+    put-hex-byte-requires
+    add-i
+    loop-less
+    loop-again
+    same-length
+    returns)

@@ -1,0 +1,21 @@
+-- `wording::record::focus_behind` meets its contract.
+-- Assumes nothing.
+use borrow.Author.Needs.{needs}
+use Rattle.wording.specs.Behind.{behind-then}
+use Rattle.wording.proofs.record.focus_behind.Statement.{statement}
+use Rattle.wording.proofs.record.focus_behind.Tie as tie
+
+said-requires : tie.Need-said-requires
+said-requires c κs = search needs
+
+focus-requires : tie.Need-focus-requires
+focus-requires c κs = search needs
+
+same-length : tie.Need-same-length
+same-length c = search needs
+
+returns : tie.Need-returns
+returns c = search (needs, behind-then)
+
+pub focus-behind-spec : {M : Type 1} → statement M
+focus-behind-spec = tie.close (tie.spec said-requires focus-requires same-length returns)

@@ -1,0 +1,51 @@
+-- `wording::record::written_name` meets its contract.
+-- Assumes nothing.
+use Rattle.wording.specs.Behind.{behind-then, behind-none}
+use borrow.Author.Needs.{needs}
+use Rattle.wording.proofs.record.written_name.Statement.{statement}
+use Rattle.wording.proofs.record.written_name.Tie as tie
+
+number-requires : tie.Need-number-requires
+number-requires c κs = search needs
+
+past-requires : tie.Need-past-requires
+past-requires c κs = search needs
+
+slice-aggregate-said : tie.Need-slice-aggregate-said
+slice-aggregate-said c = search needs
+
+said-requires : tie.Need-said-requires
+said-requires c κs = search needs
+
+name-requires : tie.Need-name-requires
+name-requires c κs = search needs
+
+bad-requires : tie.Need-bad-requires
+bad-requires c κs = search needs
+
+returns : tie.Need-returns
+returns c = search needs
+
+same-length : tie.Need-same-length
+same-length c = search needs
+
+returns-2 : tie.Need-returns-2
+returns-2 c = search (needs, behind-then, behind-none)
+
+returns-3 : tie.Need-returns-3
+returns-3 c = search needs
+
+pub written-name-spec : {M : Type 1} → statement M
+written-name-spec =
+    tie.close
+    (tie.spec
+    number-requires
+    past-requires
+    slice-aggregate-said
+    said-requires
+    name-requires
+    bad-requires
+    returns
+    same-length
+    returns-2
+    returns-3)

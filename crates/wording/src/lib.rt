@@ -1,0 +1,4 @@
+// The words in which actions and refusals are told to the people at the console: those of bindings/rust/src/words.rs.
+pub mod put;
+pub mod record;
+pub mod refusal;
