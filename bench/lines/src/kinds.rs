@@ -89,6 +89,33 @@ pub const SHAPES: [Shape; 11] = [
     Shape { name: "one unknown word (10)", line: |n| filled("", "a", "", n) },
 ];
 
+/// The reference sheet.
+const SHEET: &[u8] = include_bytes!("../../../crates/checklist/data/reference.sheet");
+
+/// 20,000 lines of the reference sheet, in random order; those of more than 60 bytes, and those that are refused by 4 or 7, are left out.
+pub fn sheet() -> Kind {
+    let mut entry = Entry::fresh();
+    let all: Vec<String> = SHEET
+        .split(|b| *b == b'\n')
+        .filter_map(|line| String::from_utf8(line.to_vec()).ok())
+        .filter(|line| line.len() <= 60 && !matches!(entry.line(line).refusal, 4 | 7))
+        .collect();
+    let mut number: u64 = 7;
+    let lines: Vec<String> = (0..20_000)
+        .map(|_| {
+            number = number.wrapping_mul(6364136223846793005).wrapping_add(1442695040888963407);
+            all[(number >> 33) as usize % all.len()].clone()
+        })
+        .collect();
+
+    let bytes: usize = lines.iter().map(String::len).sum();
+    Kind {
+        name: format!("20,000 lines of the reference sheet, {} bytes each", bytes / lines.len()),
+        aliases: 0,
+        lines,
+    }
+}
+
 /// Random lines of a fresh session, of up to 60 bytes; those that are refused by 4 or 7, at which the Rust panics or wraps, are left out.
 pub fn mixed() -> Kind {
     let mut requests = Requests::new(7, Ops::Lines);

@@ -6,7 +6,7 @@ use std::hint::black_box;
 use std::time::Instant;
 
 use entry::Entry;
-use kinds::{alias, kinds, mixed, Kind, SHAPES};
+use kinds::{alias, kinds, mixed, sheet, Kind, SHAPES};
 use oracle::command::{VimCommand, VimCommandMachine};
 use oracle::editing::application::EmptyInfo;
 use oracle::editing::context::EditContext;
@@ -102,7 +102,7 @@ fn least(kind: &Kind) -> (f64, f64) {
 fn table() {
     println!("| line | Rust, ns | entry, ns | ratio |\n|---|---|---|---|");
 
-    for kind in kinds().into_iter().chain([mixed()]) {
+    for kind in kinds().into_iter().chain([sheet(), mixed()]) {
         let (rust, entry) = least(&kind);
         println!("| {} | {rust:.0} | {entry:.1} | {:.1} |", kind.name, rust / entry);
     }
