@@ -5,7 +5,6 @@ use mathlib.Core.Bool.{true}
 use mathlib.Core.List.{List, []}
 use Prim.Native.Nat.{ℕ, zero, suc, _+_, _*_, _-_, _<_, _≤_}
 use native.Mathlib.Omega.{arith}
-use native.Mathlib.Decide.{decLt}
 use lib.ListN.{length, drop}
 use lib.Dec.{eqb, leb}
 use borrow.Author.Tests.{eq-eqb, le-leb}
@@ -85,14 +84,6 @@ pub passed-as : (s : List ℕ) (from i k n : ℕ) → Passed s from i k → byte
 passed-as s from i k n p e h l m c a =
     let b : Bounded s from i = record { here = omega arith; some = omega arith; few = omega arith; command = c; after = rw e a } in
     rw (sym e) (passed-on s from i k p b)
-
--- a place whose byte is another one is a later one
-pub moved : (s : List ℕ) (i j : ℕ) → i ≤ j → (byteAt s j ≡ byteAt s i → ⊥) → i < j
-moved s i j h e = go (decLt i j)
-  where
-    go : Dec (i < j) → i < j
-    go (yes p) = p
-    go (no p) = let q : j ≡ i = omega arith in absurd (e (ap (byteAt s) q))
 
 -- no more rows than bytes
 pub passed-few : {s : List ℕ} {from i k : ℕ} → Passed s from i k → k ≤ length s
