@@ -233,7 +233,14 @@ fn focus_behind(record: &[u8], out: &mut [u8], s: Step, lead: &[u8]) -> Step
 }
 
 // A window or tab target.
-fn target(record: &[u8], out: &mut [u8], s: Step, single: &[u8], but: &[u8], all: &[u8]) -> Step
+fn window_or_tab(
+    record: &[u8],
+    out: &mut [u8],
+    s: Step,
+    single: &[u8],
+    but: &[u8],
+    all: &[u8],
+) -> Step
     ensures { λ r. ⌜ Behind (now (out .entry)) (now (out .exit)) (s .at) (r .at) ⌝ }
 {
     let n = number(record, s.from);
@@ -308,7 +315,7 @@ fn close(record: &[u8], out: &mut [u8], s: Step, single: &[u8], but: &[u8], all:
     ensures { λ r. ⌜ Behind (now (out .entry)) (now (out .exit)) (s .at) (r .at) ⌝ }
 {
     let t = said(out, s, b"close ");
-    let u = target(record, out, t, single, but, all);
+    let u = window_or_tab(record, out, t, single, but, all);
     flags(record, out, u, b", quit", b", force")
 }
 
@@ -352,7 +359,7 @@ fn write(record: &[u8], out: &mut [u8], s: Step) -> Step
     ensures { λ r. ⌜ Behind (now (out .entry)) (now (out .exit)) (s .at) (r .at) ⌝ }
 {
     let t = said(out, s, b"write ");
-    let u = target(
+    let u = window_or_tab(
         record,
         out,
         t,

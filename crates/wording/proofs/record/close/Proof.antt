@@ -11,8 +11,8 @@ slice-aggregate-said c = search needs
 said-requires : tie.Need-said-requires
 said-requires c κs = search needs
 
-target-requires : tie.Need-target-requires
-target-requires c κs = search needs
+window-or-tab-requires : tie.Need-window-or-tab-requires
+window-or-tab-requires c κs = search needs
 
 slice-aggregate-flags : tie.Need-slice-aggregate-flags
 slice-aggregate-flags c = search needs
@@ -35,7 +35,7 @@ close-spec =
     (tie.spec
     slice-aggregate-said
     said-requires
-    target-requires
+    window-or-tab-requires
     slice-aggregate-flags
     slice-aggregate-flags-2
     flags-requires

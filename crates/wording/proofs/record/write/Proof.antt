@@ -11,17 +11,17 @@ slice-aggregate-said c = search needs
 said-requires : tie.Need-said-requires
 said-requires c κs = search needs
 
-slice-aggregate-target : tie.Need-slice-aggregate-target
-slice-aggregate-target c = search needs
+slice-aggregate-window-or-tab : tie.Need-slice-aggregate-window-or-tab
+slice-aggregate-window-or-tab c = search needs
 
-slice-aggregate-target-2 : tie.Need-slice-aggregate-target-2
-slice-aggregate-target-2 c = search needs
+slice-aggregate-window-or-tab-2 : tie.Need-slice-aggregate-window-or-tab-2
+slice-aggregate-window-or-tab-2 c = search needs
 
-slice-aggregate-target-3 : tie.Need-slice-aggregate-target-3
-slice-aggregate-target-3 c = search needs
+slice-aggregate-window-or-tab-3 : tie.Need-slice-aggregate-window-or-tab-3
+slice-aggregate-window-or-tab-3 c = search needs
 
-target-requires : tie.Need-target-requires
-target-requires c κs = search needs
+window-or-tab-requires : tie.Need-window-or-tab-requires
+window-or-tab-requires c κs = search needs
 
 written-requires : tie.Need-written-requires
 written-requires c κs = search needs
@@ -38,10 +38,10 @@ write-spec =
     (tie.spec
     slice-aggregate-said
     said-requires
-    slice-aggregate-target
-    slice-aggregate-target-2
-    slice-aggregate-target-3
-    target-requires
+    slice-aggregate-window-or-tab
+    slice-aggregate-window-or-tab-2
+    slice-aggregate-window-or-tab-3
+    window-or-tab-requires
     written-requires
     same-length
     returns)
