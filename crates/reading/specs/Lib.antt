@@ -1,4 +1,5 @@
 pub mod Line
+pub mod WordPlaces
 pub mod Alone
 pub mod LineLaws
 pub mod Behind

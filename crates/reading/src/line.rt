@@ -17,11 +17,18 @@ ghost use Prim.Native.Nat.{_<_};
 ghost use Rattle.scan.specs.Bytes.{Classes, isText};
 ghost use Rattle.scan.specs.Scan.{runAt, partOf};
 ghost use Rattle.reading.specs.Line.{skipByte, wordAt, restAt, afterWord, startOf, readingOf};
+ghost use Rattle.reading.specs.WordPlaces.{wordPlace};
 
 // Where a word ends, and where the reading goes on.
 pub enum WordRead {
     Word(usize, usize),
     Bad,
+}
+
+// Where a word must stand, or that the range before it has a number that is too large.
+pub enum WordPlace {
+    At(usize),
+    TooLarge,
 }
 
 // What a text says: its range, where its word and its argument start and end, and whether it has a bang.
@@ -159,6 +166,17 @@ fn line_start(s: &[u8], classes: &[u8; 256]) -> usize
     skip_spaces(s, i, classes)
 }
 
+// Where the word stands behind a range that was looked for at `i`.
+fn word_place(i: usize, g: RangeRead) -> WordPlace
+    ensures { λ r. ⌜ r ≡ wordPlace i g ⌝ }
+{
+    match g {
+        RangeRead::Absent => WordPlace::At(i),
+        RangeRead::Found(_, j) => WordPlace::At(j),
+        RangeRead::TooLarge => WordPlace::TooLarge,
+    }
+}
+
 // The reading of a text whose first 0x0A, or its end, is at `stop`: found once for a line, whatever its number of readings.
 pub fn parse_cmd_descr(s: &[u8], stop: usize, classes: &[u8; 256]) -> CommandRead
     requires { ⌜ stop ≡ runAt isText (now s) 0 ⌝ }
@@ -167,10 +185,9 @@ pub fn parse_cmd_descr(s: &[u8], stop: usize, classes: &[u8; 256]) -> CommandRea
 {
     let i = line_start(s, classes);
     let range = parse_range(s, i, classes);
-    match range {
-        RangeRead::Absent => parse_cmd_after_range(s, RangeRead::Absent, i, stop, classes),
-        RangeRead::Found(_, j) => parse_cmd_after_range(s, range, j, stop, classes),
-        RangeRead::TooLarge => CommandRead::TooLarge,
+    match word_place(i, range) {
+        WordPlace::At(j) => parse_cmd_after_range(s, range, j, stop, classes),
+        WordPlace::TooLarge => CommandRead::TooLarge,
     }
 }
 
