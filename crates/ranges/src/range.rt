@@ -9,6 +9,8 @@ use scan::decimal::is_digit;
 use scan::decimal::many_digits;
 use scan::part::byte_at;
 ghost use mathlib.Core.Path.{_≡_};
+ghost use mathlib.Core.Bool.{cond, _||_};
+ghost use lib.Dec.{eqb};
 ghost use Prim.Native.Nat.{_+_, _^_, _<_};
 ghost use Rattle.scan.specs.Bytes.{Classes};
 ghost use Rattle.ranges.specs.Offset.{offsetAt};
@@ -259,7 +261,24 @@ fn double(l: RangeEnding, p: RangeSearchInit, r: EndingRead) -> RangeRead
     }
 }
 
-// The range at `at`, if there is one.
+// Whether a byte parts two ends.
+fn parts(b: u8) -> bool
+    ensures { λ r. ⌜ r ≡ (eqb b 0x2C || eqb b 0x3B) ⌝ }
+{
+    b == 0x2C || b == 0x3B
+}
+
+// The separator that a byte is which parts two ends.
+fn parse_range_sep(b: u8) -> RangeSearchInit
+    ensures { λ r. ⌜ r ≡ cond (eqb b 0x2C) RangeSearchInit.Cursor RangeSearchInit.Start ⌝ }
+{
+    if b == 0x2C {
+        return RangeSearchInit::Cursor;
+    }
+    RangeSearchInit::Start
+}
+
+// The range at `at`, if there is one. The right end is read in one place, whatever the separator.
 fn parse_any_range(s: &[u8], at: usize, classes: &[u8; 256]) -> RangeRead
     requires { ⌜ Classes (now classes) ⌝ }
     ensures { λ r. ⌜ r ≡ rangeAt (now (s .entry)) at ⌝ }
@@ -269,17 +288,10 @@ fn parse_any_range(s: &[u8], at: usize, classes: &[u8; 256]) -> RangeRead
     };
     let to = l.to;
     let b = byte_at(s, to);
-    if b == 0x2C {
+    if parts(b) {
         return double(
             l,
-            RangeSearchInit::Cursor,
-            parse_range_ending(s, to + 1, classes),
-        );
-    }
-    if b == 0x3B {
-        return double(
-            l,
-            RangeSearchInit::Start,
+            parse_range_sep(b),
             parse_range_ending(s, to + 1, classes),
         );
     }
@@ -322,5 +334,5 @@ pub fn parse_whole_range(s: &[u8], classes: &[u8; 256]) -> WholeRead
     requires { ⌜ Classes (now classes) ⌝ }
     ensures { λ r. ⌜ r ≡ wholeRange (now (s .entry)) ⌝ }
 {
-    whole(s.len(), parse_range(s, 0, classes))
+    whole(s.len(), parse_any_range(s, 0, classes))
 }

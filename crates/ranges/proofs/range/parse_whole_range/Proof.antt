@@ -5,15 +5,15 @@ use borrow.Author.Needs.{needs}
 use Rattle.ranges.proofs.range.parse_whole_range.Statement.{statement}
 use Rattle.ranges.proofs.range.parse_whole_range.Tie as tie
 
-parse-range-requires : tie.Need-parse-range-requires
-parse-range-requires c κs = search needs
+parse-any-range-requires : tie.Need-parse-any-range-requires
+parse-any-range-requires c κs = search needs
 
 whole-requires : tie.Need-whole-requires
 whole-requires c κs = search needs
 
 returns : tie.Need-returns
 unfolding wholeRange
-returns c = rw (c .whole .ensures, c .before .parse-range .ensures)
+returns c = rw (c .whole .ensures, c .before .parse-any-range .ensures)
 
 pub parse-whole-range-spec : {M : Type 1} → statement M
-parse-whole-range-spec = tie.close (tie.spec parse-range-requires whole-requires returns)
+parse-whole-range-spec = tie.close (tie.spec parse-any-range-requires whole-requires returns)
