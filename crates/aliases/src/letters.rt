@@ -1,15 +1,9 @@
 // How many bytes are letters: many are tested at once.
+use scan::byte::within;
 ghost use mathlib.Core.Path.{_≡_};
 ghost use Prim.Native.Nat.{_+_, _≤_};
 ghost use lib.ListN.{length, drop};
-ghost use Rattle.scan.specs.Bytes.{within as withinOf};
 ghost use Rattle.aliases.specs.Letters.{letterOf, lettersOf};
-
-fn within(lo: u8, hi: u8, b: u8) -> bool
-    ensures { λ r. ⌜ r ≡ withinOf lo hi b ⌝ }
-{
-    lo <= b && b <= hi
-}
 
 // 1 for a letter, else 0.
 fn letter(b: u8) -> u8

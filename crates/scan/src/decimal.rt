@@ -1,4 +1,5 @@
 // Decimal digits.
+use super::byte::within;
 use super::part::byte_at;
 ghost use mathlib.Core.Path.{_≡_};
 ghost use mathlib.Core.Bool.{true, false, cond};
@@ -32,7 +33,7 @@ fn number(at: usize, i: usize, n: u64) -> Decimal
 pub fn is_digit(b: u8) -> bool
     ensures { λ r. ⌜ r ≡ isDigit b ⌝ }
 {
-    0x30 <= b && b <= 0x39
+    within(0x30, 0x39, b)
 }
 
 // Whether a digit more makes a number too large.

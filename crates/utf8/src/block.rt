@@ -3,8 +3,8 @@
 // A byte and the two before it tell whether it stands well there, without a state. The test is put in numbers, by differences that stop at 0,
 // the larger and the smaller of two: vector instructions have these for bytes, and comparisons would be more. A block with one of the first
 // bytes 0xC0, 0xC1, 0xDF, 0xE0, 0xED, or 0xF0 and above, is not told, and is read one sequence after the other.
-use super::utf8::within;
 use blocks::test::either;
+use scan::byte::within;
 ghost use mathlib.Core.Path.{_≡_};
 ghost use mathlib.Core.Bool.{false, cond};
 ghost use Prim.Native.Nat.{ℕ, _+_, _-_, _≤_};

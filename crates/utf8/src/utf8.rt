@@ -3,6 +3,7 @@ use super::ascii::any_high_before;
 use super::ascii::least;
 use super::block::BLOCK;
 use super::block::characters_end;
+use scan::byte::within;
 use scan::part::byte_at;
 ghost use mathlib.Core.Path.{_≡_};
 ghost use mathlib.Core.Bool.{true};
@@ -12,13 +13,6 @@ ghost use lib.ListN.{length};
 ghost use Rattle.scan.specs.Scan.{byteAt};
 ghost use Rattle.utf8.specs.Utf8 as utf8s;
 ghost use Rattle.utf8.specs.Utf8Laws.{Sequence};
-
-// Whether a byte is from `lo` to `hi`.
-pub fn within(lo: u8, hi: u8, b: u8) -> bool
-    ensures { λ r. ⌜ r ≡ withinOf lo hi b ⌝ }
-{
-    lo <= b && b <= hi
-}
 
 fn followers(b: u8) -> u8
     ensures { λ r. ⌜ r ≡ utf8s.followers b ⌝ }

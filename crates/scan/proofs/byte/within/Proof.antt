@@ -1,9 +1,8 @@
--- `letters::within` meets its contract.
+-- `byte::within` meets its contract.
 -- Assumes nothing.
 use borrow.Author.Tests.{le-leb, lt-leb}
-use borrow.Author.Needs.{needs}
-use Rattle.aliases.proofs.letters.within.Statement.{statement}
-use Rattle.aliases.proofs.letters.within.Tie as tie
+use Rattle.scan.proofs.byte.within.Statement.{statement}
+use Rattle.scan.proofs.byte.within.Tie as tie
 
 returns : tie.Need-returns
 returns c = simp (le-leb _ _ (c .if1 .taken))
