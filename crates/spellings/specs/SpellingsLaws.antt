@@ -12,7 +12,7 @@ use Rattle.words.specs.Words.{Row, aliases, names, shipped, same, lookupIn, loo
 use Rattle.words.specs.declared.words.Named.{Named}
 use Rattle.aliases.specs.Add.{insert}
 use Rattle.aliases.specs.Order.{orderOf}
-use Rattle.aliases.specs.declared.order.Order.{Order}
+use Rattle.aliases.specs.Good.{isLess}
 use Rattle.aliases.specs.TableLaws.{lookup-insert}
 use Rattle.spellings.specs.Spellings.{inOrder, wordOf}
 
@@ -40,12 +40,6 @@ pub word-past : (r : Row) (rs : List Row) (n : ℕ) → (r .command ≡ n → �
 unfolding wordOf
 word-past r rs n e = rw (ne-eqb (r .command) n e, wordOf)
 
--- by the order of a word and the one behind it
-abbrev isLess : Order → Bool
-isLess Order.Less = true
-isLess Order.Same = false
-isLess Order.Greater = false
-
 -- each word before the one behind it
 abbrev pub ascending : List Row → Bool
 ascending [] = true
@@ -57,7 +51,7 @@ unfolding inOrder insert orderOf shipped aliases names
 spellings-68 = refl
 
 pub spellings-ascend : ascending (inOrder shipped) ≡ true
-unfolding inOrder insert orderOf shipped aliases names
+unfolding inOrder insert orderOf isLess shipped aliases names
 spellings-ascend = refl
 
 abbrev leads : Named → ℕ → Bool
