@@ -48,18 +48,18 @@ pub fn handle(
     ensures { λ r. ⌜ r ≡ handleOf n (now (s .entry)) d x ⌝ }
 {
     match n {
-        5 => vim_cmd_close(s, d, classes),
-        6 => vim_cmd_only(s, d, classes),
-        7 => vim_cmd_quit(s, d, classes),
+        5 => vim_cmd_close(s, d),
+        6 => vim_cmd_only(s, d),
+        7 => vim_cmd_quit(s, d),
         8 => vim_cmd_quitall(d),
         9 => vim_cmd_resize(s, d, x, classes),
         10 | 11 => vim_cmd_sp(s, d, split_context(n, x), classes),
         12 => vim_cmd_view(s, d, x, classes),
-        14 => vim_cmd_tabclose(s, d, classes),
+        14 => vim_cmd_tabclose(s, d),
         15 => vim_cmd_tabedit(s, d, classes),
         16 => vim_cmd_tabmove(s, d, classes),
         17 => vim_cmd_tabnext(s, d, classes),
-        18 => vim_cmd_tabonly(s, d, classes),
+        18 => vim_cmd_tabonly(s, d),
         19 => vim_cmd_tabprev(s, d, classes),
         20 => vim_cmd_tabfirst(),
         21 => vim_cmd_tablast(),

@@ -9,7 +9,6 @@ use focus::focus::window_range_target;
 use reading::line::CommandDescription;
 use words::words::Named;
 ghost use mathlib.Core.Path.{_≡_};
-ghost use Rattle.scan.specs.Bytes.{Classes};
 ghost use Rattle.commands.specs.Handle.{roleOf};
 ghost use Rattle.commands.specs.Run.{byFocus, byRole, byName, change};
 
@@ -61,8 +60,7 @@ fn by_focus(d: CommandDescription, f: Focused) -> Next
     }
 }
 
-fn by_role(s: &[u8], d: CommandDescription, n: u64, r: Role, classes: &[u8; 256]) -> Next
-    requires { ⌜ Classes (now classes) ⌝ }
+fn by_role(s: &[u8], d: CommandDescription, n: u64, r: Role) -> Next
     ensures { λ x. ⌜ x ≡ byRole (now (s .entry)) d n r ⌝ }
 {
     let a = d.argument;
@@ -70,7 +68,7 @@ fn by_role(s: &[u8], d: CommandDescription, n: u64, r: Role, classes: &[u8; 256]
     match r {
         Role::Tab => {
             let g = d.range;
-            by_focus(d, window_range_target(s, g, classes))
+            by_focus(d, window_range_target(s, g))
         }
         Role::Axis(x) => Next::Again(Change::Axis(x), a, e),
         Role::Side(x) => Next::Again(Change::Side(x), a, e),
@@ -79,12 +77,11 @@ fn by_role(s: &[u8], d: CommandDescription, n: u64, r: Role, classes: &[u8; 256]
 }
 
 // What a reading leads to whose word was looked up.
-pub fn by_name(s: &[u8], d: CommandDescription, m: Named, classes: &[u8; 256]) -> Next
-    requires { ⌜ Classes (now classes) ⌝ }
+pub fn by_name(s: &[u8], d: CommandDescription, m: Named) -> Next
     ensures { λ x. ⌜ x ≡ byName (now (s .entry)) d m ⌝ }
 {
     match m {
-        Named::Command(n) => by_role(s, d, n, role_of(n), classes),
+        Named::Command(n) => by_role(s, d, n, role_of(n)),
         Named::Unknown => {
             let a = d.word;
             let e = d.end;

@@ -11,7 +11,6 @@ use ranges::range::RangeEndingType;
 use ranges::range::RangeRead;
 use ranges::range::RangeSpec;
 ghost use mathlib.Core.Path.{_≡_};
-ghost use Rattle.scan.specs.Bytes.{Classes};
 ghost use Rattle.focus.specs.Focus.{toward as towardOf, placed as placedOf, endFocus, rangeFocus, focusOf, atLeastOne, sized as sizedOf, endCount, rangeCount};
 
 // How a handler refuses; the numbers are in specs/Focus.antt.
@@ -68,17 +67,16 @@ fn placed(n: u64, s: Sum) -> Focused
 }
 
 // Digits give Offset; none or `.` gives Direction1D; bare `$` gives End.
-fn end_focus(s: &[u8], e: RangeEnding, wrap: bool, classes: &[u8; 256]) -> Focused
-    requires { ⌜ Classes (now classes) ⌝ }
+fn end_focus(s: &[u8], e: RangeEnding, wrap: bool) -> Focused
     ensures { λ r. ⌜ r ≡ endFocus (now (s .entry)) (e .atom) (e .from) (e .to) wrap ⌝ }
 {
     let a = e.atom;
     let from = e.from;
     let to = e.to;
     match a {
-        RangeEndingType::Absolute(n) => placed(n, sum_mods(s, from, classes)),
-        RangeEndingType::Unspecified => toward(sum_mods(s, from, classes), wrap),
-        RangeEndingType::Current => toward(sum_mods(s, from, classes), wrap),
+        RangeEndingType::Absolute(n) => placed(n, sum_mods(s, from)),
+        RangeEndingType::Unspecified => toward(sum_mods(s, from), wrap),
+        RangeEndingType::Current => toward(sum_mods(s, from), wrap),
         RangeEndingType::Last => {
             if from == to {
                 return Focused::To(FocusChange::End);
@@ -92,23 +90,21 @@ fn end_focus(s: &[u8], e: RangeEnding, wrap: bool, classes: &[u8; 256]) -> Focus
     }
 }
 
-pub fn range_to_fc(s: &[u8], g: RangeSpec, wrap: bool, classes: &[u8; 256]) -> Focused
-    requires { ⌜ Classes (now classes) ⌝ }
+pub fn range_to_fc(s: &[u8], g: RangeSpec, wrap: bool) -> Focused
     ensures { λ r. ⌜ r ≡ rangeFocus (now (s .entry)) g wrap ⌝ }
 {
     match g {
-        RangeSpec::Single(e) => end_focus(s, ending_again(e), wrap, classes),
+        RangeSpec::Single(e) => end_focus(s, ending_again(e), wrap),
         RangeSpec::Double(_, _, _) => Focused::Refused(CommandError::InvalidRange),
     }
 }
 
 // The focus of an optional range: without one the current window or tab.
-pub fn window_range_target(s: &[u8], g: RangeRead, classes: &[u8; 256]) -> Focused
-    requires { ⌜ Classes (now classes) ⌝ }
+pub fn window_range_target(s: &[u8], g: RangeRead) -> Focused
     ensures { λ r. ⌜ r ≡ focusOf (now (s .entry)) g ⌝ }
 {
     match g {
-        RangeRead::Found(r, _) => range_to_fc(s, spec_again(r), false, classes),
+        RangeRead::Found(r, _) => range_to_fc(s, spec_again(r), false),
         RangeRead::Absent => Focused::To(FocusChange::Current),
         RangeRead::TooLarge => Focused::Refused(CommandError::NumberTooLarge),
     }
@@ -130,14 +126,13 @@ fn sized(n: u64, s: Sum) -> Counted
 }
 
 // Digits and offsets, at least 1; anything else is 2^64 - 1, its offsets ignored.
-fn end_count(s: &[u8], e: RangeEnding, classes: &[u8; 256]) -> Counted
-    requires { ⌜ Classes (now classes) ⌝ }
+fn end_count(s: &[u8], e: RangeEnding) -> Counted
     ensures { λ r. ⌜ r ≡ endCount (now (s .entry)) (e .atom) (e .from) ⌝ }
 {
     let a = e.atom;
     let from = e.from;
     match a {
-        RangeEndingType::Absolute(n) => sized(n, sum_mods(s, from, classes)),
+        RangeEndingType::Absolute(n) => sized(n, sum_mods(s, from)),
         RangeEndingType::Unspecified => Counted::Exact(18446744073709551615),
         RangeEndingType::Current => Counted::Exact(18446744073709551615),
         RangeEndingType::Last => Counted::Exact(18446744073709551615),
@@ -149,12 +144,11 @@ fn end_count(s: &[u8], e: RangeEnding, classes: &[u8; 256]) -> Counted
 }
 
 // The right end of two.
-pub fn range_to_count(s: &[u8], g: RangeSpec, classes: &[u8; 256]) -> Counted
-    requires { ⌜ Classes (now classes) ⌝ }
+pub fn range_to_count(s: &[u8], g: RangeSpec) -> Counted
     ensures { λ r. ⌜ r ≡ rangeCount (now (s .entry)) g ⌝ }
 {
     match g {
-        RangeSpec::Single(e) => end_count(s, e, classes),
-        RangeSpec::Double(_, e, _) => end_count(s, e, classes),
+        RangeSpec::Single(e) => end_count(s, e),
+        RangeSpec::Double(_, e, _) => end_count(s, e),
     }
 }

@@ -6,7 +6,6 @@ use ranges::range::offset_at;
 use scan::decimal::is_digit;
 use scan::part::byte_at;
 ghost use mathlib.Core.Path.{_≡_};
-ghost use Rattle.scan.specs.Bytes.{Classes};
 ghost use Rattle.focus.specs.Sum.{addSame, apart as apartOf, addIs, sumAt, sumOf, moved as movedOf};
 ghost use Rattle.focus.specs.declared.sum.Sum.{Sum};
 
@@ -99,8 +98,7 @@ fn sum_pairs(s: &[u8], at: usize) -> Begun
 }
 
 // The sum of the offsets that start at `at`.
-pub fn sum_mods(s: &[u8], at: usize, classes: &[u8; 256]) -> Sum
-    requires { ⌜ Classes (now classes) ⌝ }
+pub fn sum_mods(s: &[u8], at: usize) -> Sum
     ensures { λ r. ⌜ r ≡ sumOf (now (s .entry)) at ⌝ }
 {
     let g = sum_pairs(s, at);

@@ -12,7 +12,6 @@ use focus::focus::focus_again;
 use focus::focus::window_range_target;
 use reading::line::CommandDescription;
 ghost use mathlib.Core.Path.{_≡_};
-ghost use Rattle.scan.specs.Bytes.{Classes};
 ghost use Rattle.handlers.specs.Close.{forced as forcedOf, quitting as quittingOf, oneOf, othersOf, closeWindows, closeTabs, closeOf, onlyOf, quitOf, quitallOf, tabcloseOf, tabonlyOf, tabfirstOf, tablastOf};
 
 // What is closed, or a refusal.
@@ -76,30 +75,27 @@ fn close_tabs(f: CloseFlags, x: Closed) -> Done
 }
 
 // The `:close` command. Alias: `clo`. Closes the window that its range names.
-pub fn vim_cmd_close(s: &[u8], d: CommandDescription, classes: &[u8; 256]) -> Done
-    requires { ⌜ Classes (now classes) ⌝ }
+pub fn vim_cmd_close(s: &[u8], d: CommandDescription) -> Done
     ensures { λ r. ⌜ r ≡ closeOf (now (s .entry)) d ⌝ }
 {
     let g = d.range;
-    close_windows(forced(d.bang), one(window_range_target(s, g, classes)))
+    close_windows(forced(d.bang), one(window_range_target(s, g)))
 }
 
 // The `:only` command. Alias: `on`. Closes all windows but the one that its range names.
-pub fn vim_cmd_only(s: &[u8], d: CommandDescription, classes: &[u8; 256]) -> Done
-    requires { ⌜ Classes (now classes) ⌝ }
+pub fn vim_cmd_only(s: &[u8], d: CommandDescription) -> Done
     ensures { λ r. ⌜ r ≡ onlyOf (now (s .entry)) d ⌝ }
 {
     let g = d.range;
-    close_windows(quitting(d.bang), others(window_range_target(s, g, classes)))
+    close_windows(quitting(d.bang), others(window_range_target(s, g)))
 }
 
 // The `:quit` command. Alias: `q`. Closes a window, and quits with the last one.
-pub fn vim_cmd_quit(s: &[u8], d: CommandDescription, classes: &[u8; 256]) -> Done
-    requires { ⌜ Classes (now classes) ⌝ }
+pub fn vim_cmd_quit(s: &[u8], d: CommandDescription) -> Done
     ensures { λ r. ⌜ r ≡ quitOf (now (s .entry)) d ⌝ }
 {
     let g = d.range;
-    close_windows(quitting(d.bang), one(window_range_target(s, g, classes)))
+    close_windows(quitting(d.bang), one(window_range_target(s, g)))
 }
 
 // The `:quitall` command. Aliases: `qa`, `qall`, `quita`. Closes all tabs and quits.
@@ -110,21 +106,19 @@ pub fn vim_cmd_quitall(d: CommandDescription) -> Done
 }
 
 // The `:tabclose` command. Alias: `tabc`. Closes the tab that its range names.
-pub fn vim_cmd_tabclose(s: &[u8], d: CommandDescription, classes: &[u8; 256]) -> Done
-    requires { ⌜ Classes (now classes) ⌝ }
+pub fn vim_cmd_tabclose(s: &[u8], d: CommandDescription) -> Done
     ensures { λ r. ⌜ r ≡ tabcloseOf (now (s .entry)) d ⌝ }
 {
     let g = d.range;
-    close_tabs(quitting(d.bang), one(window_range_target(s, g, classes)))
+    close_tabs(quitting(d.bang), one(window_range_target(s, g)))
 }
 
 // The `:tabonly` command. Alias: `tabo`. Closes all tabs but the one that its range names.
-pub fn vim_cmd_tabonly(s: &[u8], d: CommandDescription, classes: &[u8; 256]) -> Done
-    requires { ⌜ Classes (now classes) ⌝ }
+pub fn vim_cmd_tabonly(s: &[u8], d: CommandDescription) -> Done
     ensures { λ r. ⌜ r ≡ tabonlyOf (now (s .entry)) d ⌝ }
 {
     let g = d.range;
-    close_tabs(quitting(d.bang), others(window_range_target(s, g, classes)))
+    close_tabs(quitting(d.bang), others(window_range_target(s, g)))
 }
 
 // The `:tabfirst` command. Aliases: `tabr`, `tabrewind`, `tabfir`. Goes to the first tab.

@@ -5,7 +5,6 @@ use commands::next::by_name;
 use reading::line::CommandDescription;
 use reading::line::CommandRead;
 use reading::line::parse;
-use scan::classes::classes;
 use scan::part::part;
 use words::words::lookup;
 
@@ -64,11 +63,10 @@ fn by_next(d: CommandDescription, x: Next) -> Found {
 
 // What a text starts with.
 fn prefix_at(text: &[u8]) -> Found {
-    let table = classes();
     match parse(text) {
         CommandRead::Command(d) => {
             let m = lookup(part(text, d.word, d.end));
-            by_next(d, by_name(text, d, m, &table))
+            by_next(d, by_name(text, d, m))
         }
         CommandRead::Failed => Found::Last,
         CommandRead::TooLarge => Found::Last,

@@ -207,7 +207,7 @@ fn parse_range_atom(s: &[u8], at: usize, classes: &[u8; 256]) -> AtomRead
     requires { ⌜ Classes (now classes) ⌝ }
     ensures { λ r. ⌜ r ≡ atomAt (now (s .entry)) at ⌝ }
 {
-    match digits(s, at, classes) {
+    match digits(s, at) {
         Decimal::Value(n, next) => AtomRead::Found(RangeEndingType::Absolute(n), next),
         Decimal::TooLarge => AtomRead::TooLarge,
         Decimal::Absent => {

@@ -57,15 +57,14 @@ fn step_by(s: Sum) -> Resized
 }
 
 // Digits give the size, offsets alone a step.
-fn end_change(a: &[u8], e: RangeEnding, classes: &[u8; 256]) -> Resized
-    requires { ⌜ Classes (now classes) ⌝ }
+fn end_change(a: &[u8], e: RangeEnding) -> Resized
     ensures { λ r. ⌜ r ≡ endChange (now (a .entry)) (e .atom) (e .from) ⌝ }
 {
     let t = e.atom;
     let from = e.from;
     match t {
-        RangeEndingType::Absolute(n) => exact_by(n, sum_mods(a, from, classes)),
-        RangeEndingType::Unspecified => step_by(sum_mods(a, from, classes)),
+        RangeEndingType::Absolute(n) => exact_by(n, sum_mods(a, from)),
+        RangeEndingType::Unspecified => step_by(sum_mods(a, from)),
         RangeEndingType::Current => Resized::Refused(CommandError::InvalidRange),
         RangeEndingType::Last => Resized::Refused(CommandError::InvalidRange),
         RangeEndingType::All => Resized::Refused(CommandError::InvalidRange),
@@ -75,22 +74,20 @@ fn end_change(a: &[u8], e: RangeEnding, classes: &[u8; 256]) -> Resized
     }
 }
 
-fn range_change(a: &[u8], g: RangeSpec, classes: &[u8; 256]) -> Resized
-    requires { ⌜ Classes (now classes) ⌝ }
+fn range_change(a: &[u8], g: RangeSpec) -> Resized
     ensures { λ r. ⌜ r ≡ rangeChange (now (a .entry)) g ⌝ }
 {
     match g {
-        RangeSpec::Single(e) => end_change(a, e, classes),
+        RangeSpec::Single(e) => end_change(a, e),
         RangeSpec::Double(_, _, _) => Resized::Refused(CommandError::InvalidRange),
     }
 }
 
-fn change_by(a: &[u8], w: WholeRead, classes: &[u8; 256]) -> Resized
-    requires { ⌜ Classes (now classes) ⌝ }
+fn change_by(a: &[u8], w: WholeRead) -> Resized
     ensures { λ r. ⌜ r ≡ changeBy (now (a .entry)) w ⌝ }
 {
     match w {
-        WholeRead::Range(g) => range_change(a, g, classes),
+        WholeRead::Range(g) => range_change(a, g),
         WholeRead::Bad => Resized::Refused(CommandError::ParseFailed),
         WholeRead::TooLarge => Resized::Refused(CommandError::NumberTooLarge),
     }
@@ -104,7 +101,7 @@ fn size_change(a: &[u8], classes: &[u8; 256]) -> Resized
     if a.len() == 0 {
         return Resized::Refused(CommandError::InvalidArgument);
     }
-    change_by(a, parse_whole_range(a, classes), classes)
+    change_by(a, parse_whole_range(a, classes))
 }
 
 fn resize_at(axis: Axis, c: SizeChange, f: Focused) -> Done
@@ -139,6 +136,6 @@ pub fn vim_cmd_resize(
     resize_by(
         x.axis(),
         size_change(argument(s, d), classes),
-        window_range_target(s, g, classes),
+        window_range_target(s, g),
     )
 }

@@ -43,7 +43,7 @@ fn decide(s: &[u8], stop: usize, added: &[u8], classes: &[u8; 256]) -> Next
             if a == e {
                 return Next::Empty;
             }
-            by_name(s, d, lookup_in(added, part(s, a, e)), classes)
+            by_name(s, d, lookup_in(added, part(s, a, e)))
         }
         CommandRead::Failed => Next::Refused(CommandError::ParseFailed),
         CommandRead::TooLarge => Next::Refused(CommandError::NumberTooLarge),

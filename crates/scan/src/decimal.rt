@@ -6,7 +6,7 @@ ghost use mathlib.Core.Bool.{true, false, cond};
 ghost use Prim.Native.Nat.{_+_, _*_, _^_, _<_, _≤_};
 ghost use lib.Dec.{eqb};
 ghost use lib.ListN.{length};
-ghost use Rattle.scan.specs.Bytes.{Classes, isDigit};
+ghost use Rattle.scan.specs.Bytes.{isDigit};
 ghost use Rattle.scan.specs.Scan.{digitsAt};
 ghost use Rattle.scan.specs.DigitsLaws.{Zeros};
 
@@ -106,8 +106,7 @@ pub fn many_digits(s: &[u8], at: usize) -> Decimal
 }
 
 // The digits at `at`: none, or one, is told at once.
-pub fn digits(s: &[u8], at: usize, classes: &[u8; 256]) -> Decimal
-    requires { ⌜ Classes (now classes) ⌝ }
+pub fn digits(s: &[u8], at: usize) -> Decimal
     ensures { λ r. ⌜ r ≡ digitsAt (now (s .entry)) at ⌝ }
 {
     let b = byte_at(s, at);

@@ -40,8 +40,7 @@ fn field_end(s: &[u8], at: usize) -> usize {
 // The command that a text names: digits are its number, and anything else is one of its spellings. A number that is too large for 64
 // bits is above 27 like others.
 fn command_of(s: &[u8]) -> Named {
-    let table = classes();
-    match digits(s, 0, &table) {
+    match digits(s, 0) {
         Decimal::Absent => lookup(s),
         Decimal::Value(n, e) => {
             if e == s.len() {

@@ -81,8 +81,7 @@ fn moved(x: Focused) -> Done
     }
 }
 
-fn next_by(s: &[u8], a: &[u8], g: TabRange, classes: &[u8; 256]) -> Focused
-    requires { ⌜ Classes (now classes) ⌝ }
+fn next_by(s: &[u8], a: &[u8], g: TabRange) -> Focused
     ensures { λ r. ⌜ r ≡ nextBy (now (s .entry)) (now (a .entry)) g ⌝ }
 {
     match g {
@@ -91,8 +90,8 @@ fn next_by(s: &[u8], a: &[u8], g: TabRange, classes: &[u8; 256]) -> Focused
             Count::Contextual,
             true,
         )),
-        TabRange::InLine(x) => range_to_fc(s, x, true, classes),
-        TabRange::InArgument(x) => range_to_fc(a, x, true, classes),
+        TabRange::InLine(x) => range_to_fc(s, x, true),
+        TabRange::InArgument(x) => range_to_fc(a, x, true),
         TabRange::Refused(e) => Focused::Refused(e),
     }
 }
@@ -104,7 +103,7 @@ pub fn vim_cmd_tabnext(s: &[u8], d: CommandDescription, classes: &[u8; 256]) -> 
 {
     let g = d.range;
     let a = argument(s, d);
-    focused(next_by(s, a, tab_range(g, a, classes), classes))
+    focused(next_by(s, a, tab_range(g, a, classes)))
 }
 
 // Digits alone go back as many tabs.
@@ -168,12 +167,11 @@ pub fn vim_cmd_tabprev(s: &[u8], d: CommandDescription, classes: &[u8; 256]) -> 
     focused(prev_by(tab_range(g, argument(s, d), classes)))
 }
 
-fn move_argument(a: &[u8], w: WholeRead, classes: &[u8; 256]) -> Focused
-    requires { ⌜ Classes (now classes) ⌝ }
+fn move_argument(a: &[u8], w: WholeRead) -> Focused
     ensures { λ r. ⌜ r ≡ moveArgument (now (a .entry)) w ⌝ }
 {
     match w {
-        WholeRead::Range(x) => range_to_fc(a, x, false, classes),
+        WholeRead::Range(x) => range_to_fc(a, x, false),
         WholeRead::Bad => Focused::Refused(CommandError::ParseFailed),
         WholeRead::TooLarge => Focused::Refused(CommandError::NumberTooLarge),
     }
@@ -185,13 +183,13 @@ fn move_range(s: &[u8], g: RangeRead, a: &[u8], classes: &[u8; 256]) -> Focused
     ensures { λ r. ⌜ r ≡ moveRange (now (s .entry)) g (now (a .entry)) ⌝ }
 {
     match g {
-        RangeRead::Found(x, _) => range_to_fc(s, x, false, classes),
+        RangeRead::Found(x, _) => range_to_fc(s, x, false),
         RangeRead::TooLarge => Focused::Refused(CommandError::NumberTooLarge),
         RangeRead::Absent => {
             if a.len() == 0 {
                 return Focused::To(FocusChange::End);
             }
-            move_argument(a, parse_whole_range(a, classes), classes)
+            move_argument(a, parse_whole_range(a, classes))
         }
     }
 }

@@ -95,12 +95,11 @@ fn sized_by(n: Counted) -> WindowSize
 }
 
 // The range as a window's height or width.
-fn window_size(s: &[u8], g: RangeRead, classes: &[u8; 256]) -> WindowSize
-    requires { ⌜ Classes (now classes) ⌝ }
+fn window_size(s: &[u8], g: RangeRead) -> WindowSize
     ensures { λ r. ⌜ r ≡ sizeOf (now (s .entry)) g ⌝ }
 {
     match g {
-        RangeRead::Found(r, _) => sized_by(range_to_count(s, r, classes)),
+        RangeRead::Found(r, _) => sized_by(range_to_count(s, r)),
         RangeRead::Absent => WindowSize::Is(Size::Absent),
         RangeRead::TooLarge => WindowSize::Refused(CommandError::NumberTooLarge),
     }
@@ -160,7 +159,7 @@ pub fn vim_cmd_sp(s: &[u8], d: CommandDescription, x: CommandContext, classes: &
     let a = argument(s, d);
     window_by(
         x.with_open_flags(opening(d.bang)),
-        window_size(s, g, classes),
+        window_size(s, g),
         open_target(a, OpenTarget::Current, classes),
     )
 }
@@ -195,6 +194,6 @@ pub fn vim_cmd_tabedit(s: &[u8], d: CommandDescription, classes: &[u8; 256]) -> 
     tab_by(
         open_target(a, OpenTarget::Unnamed, classes),
         opening(d.bang),
-        window_range_target(s, g, classes),
+        window_range_target(s, g),
     )
 }

@@ -18,10 +18,10 @@ use Rattle.focus.proofs.sum.sum_mods.Statement.{statement}
 use Rattle.focus.proofs.sum.sum_mods.Tie as tie
 
 abbrev Inv-loop : tie.InvT-loop
-Inv-loop s at classes i₀ d₀ n₀ b₀ i d n b = (b ≡ getD s i 0) × (sumAt (Sum.Is MoveDir1D.Next 0) s at ≡ sumAt (Sum.Is d n) s i)
+Inv-loop s at i₀ d₀ n₀ b₀ i d n b = (b ≡ getD s i 0) × (sumAt (Sum.Is MoveDir1D.Next 0) s at ≡ sumAt (Sum.Is d n) s i)
 
 abbrev μ-loop : tie.MeasureT-loop
-μ-loop s at classes i₀ d₀ n₀ b₀ i d n b = length s - i
+μ-loop s at i₀ d₀ n₀ b₀ i d n b = length s - i
 
 sum-pairs-requires : tie.Need-sum-pairs-requires Inv-loop μ-loop
 sum-pairs-requires c κs = search needs

@@ -34,11 +34,11 @@ byte-at-requires-2 c κs = search needs
 is-digit-requires-2 : tie.Need-is-digit-requires-2
 is-digit-requires-2 c κs = search needs
 
-sub-t9 : tie.Need-sub-t9
-sub-t9 c = omega (arith, digital _ (first (c .before .before .before)), c .before .before .before .before .before .byte-at .ensures)
+sub-t8 : tie.Need-sub-t8
+sub-t8 c = omega (arith, digital _ (first (c .before .before .before)), c .before .before .before .before .before .byte-at .ensures)
 
-cast-t10 : tie.Need-cast-t10
-cast-t10 c = search needs
+cast-t9 : tie.Need-cast-t9
+cast-t9 c = search needs
 
 returns-2 : tie.Need-returns-2
 returns-2 c =
@@ -62,8 +62,8 @@ digits-spec =
     add-i
     byte-at-requires-2
     is-digit-requires-2
-    sub-t9
-    cast-t10
+    sub-t8
+    cast-t9
     returns-2
     many-digits-requires
     returns-3)
