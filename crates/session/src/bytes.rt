@@ -5,11 +5,9 @@ use scan::part::part;
 use store::put_bytes;
 use utf8::utf8::is_utf8;
 ghost use mathlib.Core.Path.{_≡_};
-ghost use mathlib.Core.Bool.{true};
 ghost use Prim.Native.Nat.{_+_, _<_, _≤_};
 ghost use lib.ListN.{length};
 ghost use Rattle.scan.specs.Bytes.{Classes};
-ghost use Rattle.scan.specs.Scan.{partOf};
 ghost use Rattle.store.specs.Splice.{Put, Room};
 ghost use Rattle.session.specs.Layout.{two, twoAt, areaOf, lineOf, sound as soundOf, remembering};
 

@@ -29,7 +29,7 @@ ghost use Rattle.aliases.specs.Add.{insert};
 ghost use Rattle.commands.specs.Run.{lineFrom};
 ghost use Rattle.commands.specs.Line.{storeAfter};
 ghost use Rattle.run.specs.Reply.{reply};
-ghost use Rattle.session.specs.Layout.{areaOf, lineOf, sessionOf, tableOf, remembering, aliasing, sound as soundOf};
+ghost use Rattle.session.specs.Layout.{areaOf, sessionOf, tableOf, remembering, aliasing, sound as soundOf};
 ghost use Rattle.session.specs.Lent.{isFull, freshNo, freshBytes, lineAnswer, lineBytes, aliasNo, aliasBytes, readBackNo, readBackCount, readBackStore};
 
 // What reading the remembered line back answers: the refusal's number or 0, and the line's byte count.
