@@ -2,8 +2,8 @@ pub mod Rows
 pub mod RowsLaws
 pub mod Order
 pub mod OrderLaws
-pub mod Number
-pub mod NumberLaws
+pub mod Earlier
+pub mod EarlierLaws
 pub mod Letters
 pub mod LettersLaws
 pub mod Good

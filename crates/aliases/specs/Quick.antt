@@ -8,7 +8,8 @@ use lib.ListN.{length, drop}
 use Rattle.scan.specs.Scan.{byteAt, partOf}
 use Rattle.aliases.specs.Rows.{rowsOf}
 use Rattle.aliases.specs.RowsLaws.{rowsAt}
-use Rattle.aliases.specs.Number.{numberAt, Earlier}
+use Rattle.scan.specs.Number.{numberAt}
+use Rattle.aliases.specs.Earlier.{Earlier}
 use Rattle.aliases.specs.Letters.{lettersOf}
 use Rattle.aliases.specs.Good.{goodFrom, goodArea}
 use Rattle.aliases.specs.GoodLaws.{goodAt}

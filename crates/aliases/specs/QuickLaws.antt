@@ -13,8 +13,8 @@ use Rattle.scan.specs.Scan.{byteAt, partOf, runFrom, runAt}
 use Rattle.scan.specs.PartLaws.{part-length}
 use Rattle.aliases.specs.Rows.{rowsOf}
 use Rattle.aliases.specs.RowsLaws.{rows-start, rows-end, rows-step, rows-count}
-use Rattle.aliases.specs.Number.{Earlier}
-use Rattle.aliases.specs.NumberLaws.{earlier-order}
+use Rattle.aliases.specs.Earlier.{Earlier}
+use Rattle.aliases.specs.EarlierLaws.{earlier-order}
 use Rattle.aliases.specs.Letters.{letterOf, lettersOf}
 use Rattle.aliases.specs.LettersLaws.{letter-low, letters-step, letters-end, letters-most, letters-part, letters-run}
 use Rattle.aliases.specs.Good.{isAlias, goodRow, goodFrom, goodArea}

@@ -3,6 +3,5 @@ pub mod add;
 pub mod good;
 mod letters;
 pub mod lookup;
-mod number;
 pub mod order;
 mod quick;

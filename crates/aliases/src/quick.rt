@@ -1,11 +1,12 @@
 // A quick test of aliases whose words are letters: it says yes only to what is aliases of a session.
 use super::letters::letters;
-use super::number::eight;
+use scan::number::eight;
 ghost use mathlib.Core.Path.{_≡_};
 ghost use mathlib.Core.Bool.{true};
 ghost use Prim.Native.Nat.{_+_, _≤_};
 ghost use lib.ListN.{length};
-ghost use Rattle.aliases.specs.Number.{numberAt, Alike, Earlier};
+ghost use Rattle.scan.specs.Number.{numberAt};
+ghost use Rattle.aliases.specs.Earlier.{Alike, Earlier};
 ghost use Rattle.aliases.specs.Good.{goodArea};
 ghost use Rattle.aliases.specs.Quick.{Passed, Walked, Counted};
 

@@ -12,8 +12,9 @@ use lib.ListN.{length, getD, take, drop, drop-of-length-le, length-drop}
 use lib.Seq.{take-all, take-add, drop-drop, length-take-le}
 use borrow.Author.Tests.{eqb-true, eqb-false, eq-eqb, ne-eqb, ltb-true, leb-true}
 use Rattle.scan.specs.RunLaws.{and-left, and-right, drop-step}
+use Rattle.scan.specs.Number.{numberAt}
 use Rattle.words.specs.Words.{Row, aliases, names, shipped, same, lookupIn, lookup}
-use Rattle.words.specs.Keys.{packFrom, pack, numberAt, ofLength, keysOf, keyIn, keyed}
+use Rattle.words.specs.Keys.{packFrom, pack, ofLength, keysOf, keyIn, keyed}
 use Rattle.words.specs.declared.words.Named.{Named}
 
 -- bytes ---------------------------------------------------------------------------------------------------------------------------
@@ -222,9 +223,14 @@ pack-behind k (y ∷ ys) =
     let i : packFrom (0 * 256 + y) ys ≡ y * p + packFrom 0 ys = ap (λ (m : ℕ). packFrom m ys) (zero-add y) ∙ pack-behind y ys in
     pack-behind (k * 256 + y) ys ∙ omega (arith, d, i, ap (λ (m : ℕ). k * m) (g ∙ sym e), f)
 
+-- bytes in a row are packed
+number-pack : (x : ℕ) (w : List ℕ) (i n : ℕ) → i + n ≤ length w → numberAt x w i n ≡ packFrom x (take n (drop i w))
+unfolding numberAt packFrom
+number-pack x w i zero h = refl
+number-pack x w i (suc n) h = rw (drop-step w i (omega arith)) (number-pack (x * 256 + getD w i 0) w (i + 1) n (omega arith))
+
 -- the n bytes behind m others
-pub number-join : (w : List ℕ) (i m n a b : ℕ) → i + (m + n) ≤ length w → a ≡ numberAt w i m → b ≡ numberAt w (i + m) n → a * 256 ^ n + b ≡ numberAt w i (m + n)
-unfolding numberAt pack
+pub number-join : (w : List ℕ) (i m n a b : ℕ) → i + (m + n) ≤ length w → a ≡ numberAt 0 w i m → b ≡ numberAt 0 w (i + m) n → a * 256 ^ n + b ≡ numberAt 0 w i (m + n)
 number-join w i m n a b h e f =
     let l = drop i w in
     let xs = take m l in
@@ -232,24 +238,26 @@ number-join w i m n a b h e f =
     let d : drop m l ≡ drop (i + m) w = drop-drop m i w in
     let s : length ys ≡ n = length-take-le n (drop m l) (omega (arith, length-drop i w, length-drop m l)) in
     let t : take (m + n) l ≡ xs ++ ys = take-add m n l in
-    rw (e, f, ← d) (sym (ap (packFrom 0) t ∙ pack-joined 0 xs ys ∙ pack-behind (packFrom 0 xs) ys ∙ ap (λ (z : ℕ). packFrom 0 xs * 256 ^ z + packFrom 0 ys) s))
+    rw (e ∙ number-pack 0 w i m (omega arith), f ∙ number-pack 0 w (i + m) n (omega arith), number-pack 0 w i (m + n) h, ← d)
+    (sym (ap (packFrom 0) t ∙ pack-joined 0 xs ys ∙ pack-behind (packFrom 0 xs) ys ∙ ap (λ (z : ℕ). packFrom 0 xs * 256 ^ z + packFrom 0 ys) s))
 
-pub number-one : (w : List ℕ) (i : ℕ) → i < length w → getD w i 0 ≡ numberAt w i 1
-unfolding numberAt pack packFrom
-number-one w i h = rw (drop-step w i h) (omega arith)
+pub number-one : (w : List ℕ) (i : ℕ) → getD w i 0 ≡ numberAt 0 w i 1
+unfolding numberAt
+number-one w i = omega arith
 
 -- what its number leads to is what a word leads to: of at most eight bytes, and of more by two numbers
-pub short-found : (w : List ℕ) (n f : ℕ) → Bytes w → length w ≡ n → n ≤ 8 → f ≡ numberAt w 0 n → keyed n f 0 ≡ lookup w
-unfolding numberAt
+pub short-found : (w : List ℕ) (n f : ℕ) → Bytes w → length w ≡ n → n ≤ 8 → f ≡ numberAt 0 w 0 n → keyed n f 0 ≡ lookup w
+unfolding pack
 short-found w n f h e l k =
-    let p : numberAt w 0 n ≡ pack w = ap pack (take-all n w (omega arith)) in
+    let p : numberAt 0 w 0 n ≡ pack w = number-pack 0 w 0 n (omega arith) ∙ ap pack (take-all n w (omega arith)) in
     rw (k ∙ p, ← e) (sym (short-key w h (omega arith)))
 
-pub long-found : (w : List ℕ) (m n f b : ℕ) → Bytes w → length w ≡ m → m ≡ 8 + n → f ≡ numberAt w 0 8 → b ≡ numberAt w 8 n → keyed m f b ≡ lookup w
-unfolding numberAt
+pub long-found : (w : List ℕ) (m n f b : ℕ) → Bytes w → length w ≡ m → m ≡ 8 + n → f ≡ numberAt 0 w 0 8 → b ≡ numberAt 0 w 8 n → keyed m f b ≡ lookup w
+unfolding pack
 long-found w m n f b h e l j k =
-    let p : numberAt w 8 n ≡ pack (drop 8 w) = ap pack (take-all n (drop 8 w) (omega (arith, length-drop 8 w))) in
-    rw (j, k ∙ p, ← e) (sym (shipped-key w h))
+    let o : numberAt 0 w 0 8 ≡ pack (take 8 w) = number-pack 0 w 0 8 (omega arith) in
+    let p : numberAt 0 w 8 n ≡ pack (drop 8 w) = number-pack 0 w 8 n (omega arith) ∙ ap pack (take-all n (drop 8 w) (omega (arith, length-drop 8 w))) in
+    rw (j ∙ o, k ∙ p, ← e) (sym (shipped-key w h))
 
 -- no shipped word has no byte or more than eleven
 between : (n : ℕ) → (n ≡ 1 → ⊥) → (n ≡ 2 → ⊥) → (n ≡ 3 → ⊥) → (n ≡ 4 → ⊥) → (n ≡ 5 → ⊥) → (n ≡ 6 → ⊥) → n ≤ 6 → n ≡ 0

@@ -16,10 +16,6 @@ packFrom k (b ∷ bs) = packFrom (k * 256 + b) bs
 unfoldable pub pack : List ℕ → ℕ
 pack w = packFrom 0 w
 
--- the number of the n bytes of w from i on
-unfoldable pub numberAt : List ℕ → ℕ → ℕ → ℕ
-numberAt w i n = pack (take n (drop i w))
-
 -- the rows whose words have n bytes
 unfoldable pub ofLength : ℕ → List Row → List Row
 ofLength n [] = []

@@ -1,13 +1,15 @@
 // The shipped words: 28 names and 42 aliases, 68 different words, each leading to a command by its number in default_cmds' order.
 // A word is looked up by its length and by two numbers, which its first eight bytes and the rest make.
+use scan::number::eight;
 ghost use mathlib.Core.Path.{_≡_};
 ghost use mathlib.Core.Bool.{cond};
 ghost use Prim.Native.Nat.{_+_, _≤_, _<_};
 ghost use lib.Dec.{eqb};
 ghost use lib.ListN.{length};
+ghost use Rattle.scan.specs.Number.{numberAt};
 ghost use Rattle.words.specs.declared.words.Named.{Named};
 ghost use Rattle.words.specs.Words.{lookup as lookupOf};
-ghost use Rattle.words.specs.Keys.{numberAt, keyed};
+ghost use Rattle.words.specs.Keys.{keyed};
 
 // What a word leads to.
 pub enum Named {
@@ -18,7 +20,7 @@ pub enum Named {
 // The number of the byte at `i`. Of several the first counts highest.
 fn one(w: &[u8], i: usize) -> u64
     requires { ⌜ i + 1 ≤ length (now w) ⌝ }
-    ensures value { λ r. ⌜ r ≡ numberAt (now (w .entry)) i 1 ⌝ }
+    ensures value { λ r. ⌜ r ≡ numberAt 0 (now (w .entry)) i 1 ⌝ }
     ensures bound { λ r. ⌜ r < 256 ⌝ }
 {
     w[i] as u64
@@ -27,7 +29,7 @@ fn one(w: &[u8], i: usize) -> u64
 // The number of the two bytes from `i` on.
 fn two(w: &[u8], i: usize) -> u64
     requires { ⌜ i + 2 ≤ length (now w) ⌝ }
-    ensures value { λ r. ⌜ r ≡ numberAt (now (w .entry)) i 2 ⌝ }
+    ensures value { λ r. ⌜ r ≡ numberAt 0 (now (w .entry)) i 2 ⌝ }
     ensures bound { λ r. ⌜ r < 65536 ⌝ }
 {
     one(w, i) * 256 + one(w, i + 1)
@@ -36,7 +38,7 @@ fn two(w: &[u8], i: usize) -> u64
 // The number of the three bytes from `i` on.
 fn three(w: &[u8], i: usize) -> u64
     requires { ⌜ i + 3 ≤ length (now w) ⌝ }
-    ensures value { λ r. ⌜ r ≡ numberAt (now (w .entry)) i 3 ⌝ }
+    ensures value { λ r. ⌜ r ≡ numberAt 0 (now (w .entry)) i 3 ⌝ }
     ensures bound { λ r. ⌜ r < 16777216 ⌝ }
 {
     two(w, i) * 256 + one(w, i + 2)
@@ -45,7 +47,7 @@ fn three(w: &[u8], i: usize) -> u64
 // The number of the four bytes from `i` on.
 fn four(w: &[u8], i: usize) -> u64
     requires { ⌜ i + 4 ≤ length (now w) ⌝ }
-    ensures value { λ r. ⌜ r ≡ numberAt (now (w .entry)) i 4 ⌝ }
+    ensures value { λ r. ⌜ r ≡ numberAt 0 (now (w .entry)) i 4 ⌝ }
     ensures bound { λ r. ⌜ r < 4294967296 ⌝ }
 {
     two(w, i) * 65536 + two(w, i + 2)
@@ -54,7 +56,7 @@ fn four(w: &[u8], i: usize) -> u64
 // The number of the five bytes from `i` on.
 fn five(w: &[u8], i: usize) -> u64
     requires { ⌜ i + 5 ≤ length (now w) ⌝ }
-    ensures value { λ r. ⌜ r ≡ numberAt (now (w .entry)) i 5 ⌝ }
+    ensures value { λ r. ⌜ r ≡ numberAt 0 (now (w .entry)) i 5 ⌝ }
     ensures bound { λ r. ⌜ r < 1099511627776 ⌝ }
 {
     four(w, i) * 256 + one(w, i + 4)
@@ -63,7 +65,7 @@ fn five(w: &[u8], i: usize) -> u64
 // The number of the six bytes from `i` on.
 fn six(w: &[u8], i: usize) -> u64
     requires { ⌜ i + 6 ≤ length (now w) ⌝ }
-    ensures value { λ r. ⌜ r ≡ numberAt (now (w .entry)) i 6 ⌝ }
+    ensures value { λ r. ⌜ r ≡ numberAt 0 (now (w .entry)) i 6 ⌝ }
     ensures bound { λ r. ⌜ r < 281474976710656 ⌝ }
 {
     four(w, i) * 65536 + two(w, i + 4)
@@ -72,19 +74,10 @@ fn six(w: &[u8], i: usize) -> u64
 // The number of the seven bytes from `i` on.
 fn seven(w: &[u8], i: usize) -> u64
     requires { ⌜ i + 7 ≤ length (now w) ⌝ }
-    ensures value { λ r. ⌜ r ≡ numberAt (now (w .entry)) i 7 ⌝ }
+    ensures value { λ r. ⌜ r ≡ numberAt 0 (now (w .entry)) i 7 ⌝ }
     ensures bound { λ r. ⌜ r < 72057594037927936 ⌝ }
 {
     four(w, i) * 16777216 + three(w, i + 4)
-}
-
-// The number of the eight bytes from `i` on.
-fn eight(w: &[u8], i: usize) -> u64
-    requires { ⌜ i + 8 ≤ length (now w) ⌝ }
-    ensures value { λ r. ⌜ r ≡ numberAt (now (w .entry)) i 8 ⌝ }
-    ensures bound { λ r. ⌜ r < 18446744073709551616 ⌝ }
-{
-    four(w, i) * 4294967296 + four(w, i + 4)
 }
 
 // The words of 1 byte.

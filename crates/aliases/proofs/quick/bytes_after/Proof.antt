@@ -6,7 +6,7 @@ use mathlib.Core.Bool.{false≢true}
 use Prim.Native.Nat.{_-_, _≤_}
 use borrow.Author.Tests.{ltb-true}
 use borrow.Author.Count.{below-more}
-use Rattle.aliases.specs.Number.{Alike}
+use Rattle.aliases.specs.Earlier.{Alike}
 use borrow.Author.Needs.{needs}
 use Rattle.aliases.proofs.quick.bytes_after.Statement.{statement}
 use Rattle.aliases.proofs.quick.bytes_after.Tie as tie

@@ -5,7 +5,7 @@ use native.Mathlib.Omega.{arith}
 use Prim.Native.Nat.{_+_, _-_}
 use borrow.Author.Tests.{not-false}
 use Rattle.scan.specs.Scan.{byteAt}
-use Rattle.aliases.specs.Number.{numberAt}
+use Rattle.scan.specs.Number.{numberAt}
 use Rattle.aliases.specs.Quick.{Passed}
 use Rattle.aliases.specs.QuickLaws.{passed-start, passed-as, passed-few}
 use borrow.Author.Needs.{needs}

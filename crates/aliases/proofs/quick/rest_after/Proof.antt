@@ -2,7 +2,7 @@
 -- Assumes nothing.
 use native.Mathlib.Omega.{arith}
 use borrow.Author.Tests.{ltb-true}
-use Rattle.aliases.specs.NumberLaws.{number-next, number-last, number-more}
+use Rattle.aliases.specs.EarlierLaws.{number-next, number-last, number-more}
 use borrow.Author.Needs.{needs}
 use Rattle.aliases.proofs.quick.rest_after.Statement.{statement}
 use Rattle.aliases.proofs.quick.rest_after.Tie as tie

@@ -4,7 +4,7 @@ use mathlib.Core.Path.{_≡_}
 use native.Mathlib.Omega.{arith}
 use Prim.Native.Nat.{_+_, _-_}
 use borrow.Author.Tests.{not-false}
-use Rattle.aliases.specs.Number.{numberAt}
+use Rattle.scan.specs.Number.{numberAt}
 use Rattle.aliases.specs.Quick.{Passed}
 use Rattle.aliases.specs.QuickLaws.{passed-start, passed-on, passed-few}
 use borrow.Author.Needs.{needs}

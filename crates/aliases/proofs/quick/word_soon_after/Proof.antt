@@ -3,7 +3,7 @@
 use Prim.Native.Nat.{_-_, _*_, _^_, _/_}
 use native.Mathlib.Omega.{arith}
 use borrow.Author.Tests.{ltb-true}
-use Rattle.aliases.specs.NumberLaws.{number-less, number-short, earlier-more}
+use Rattle.aliases.specs.EarlierLaws.{number-less, number-short, earlier-more}
 use borrow.Author.Needs.{needs}
 use Rattle.aliases.proofs.quick.word_soon_after.Statement.{statement}
 use Rattle.aliases.proofs.quick.word_soon_after.Tie as tie

@@ -13,7 +13,7 @@ cast-result : tie.Need-cast-result
 cast-result c = omega (arith, c .shared-slice-known .given (c .before .args .i))
 
 returns : tie.Need-returns
-returns c = (number-one _ _ (omega arith), omega (arith, c .shared-slice-known .given (c .before .args .i)))
+returns c = (number-one _ _, omega (arith, c .shared-slice-known .given (c .before .args .i)))
 
 pub one-spec : {M : Type 1} → statement M
 one-spec = tie.close (tie.spec shared-slice-read-result cast-result returns)

@@ -6,8 +6,8 @@ use native.Mathlib.Omega.{arith}
 use lib.Bits.{bitOr, or-shifted}
 use lib.Pow.{shl-exact}
 use borrow.Author.Needs.{needs}
-use Rattle.aliases.proofs.number.above.Statement.{statement}
-use Rattle.aliases.proofs.number.above.Tie as tie
+use Rattle.scan.proofs.number.above.Statement.{statement}
+use Rattle.scan.proofs.number.above.Tie as tie
 
 shl-result : tie.Need-shl-result
 shl-result c = search needs

@@ -1,4 +1,4 @@
--- Laws of bytes as a number: their order is the number's; a number's front; and of bytes that come first.
+-- Laws of bytes that come first, and of bytes as a number: their order is the number's; a number's front.
 -- Assumes nothing.
 use mathlib.Core.Path.{_≡_, refl, sym, _∙_, ap}
 use mathlib.Core.List.{List}
@@ -8,8 +8,9 @@ use native.Mathlib.Decide.{decLt}
 use lib.ListN.{length, drop, length-take}
 use lib.Pow.{pow-mono, pow-add, shl-shr, shr-shr, high}
 use Rattle.scan.specs.Scan.{byteAt, partOf}
+use Rattle.scan.specs.Number.{numberAt}
 use Rattle.scan.specs.PartLaws.{part-length}
-use Rattle.aliases.specs.Number.{numberAt, Alike, Earlier}
+use Rattle.aliases.specs.Earlier.{Alike, Earlier}
 use Rattle.aliases.specs.RowsLaws.{part-byte}
 use Rattle.aliases.specs.Order.{orderOf}
 use Rattle.aliases.specs.OrderLaws.{orderAt, order-start, order-shorter, order-less, order-on}
@@ -57,21 +58,6 @@ module _ (s : List ℕ) (a b : ℕ) where
       let f : a ≡ a + 0 = omega arith in
       let g : b ≡ b + 0 = omega arith in
       record { place = 0; inside = h; alike = λ q i. absurd (omega arith); less = rw (f, g) at e }
-
--- eight bytes ----------------------------------------------------------------------------------------------------------------------------
-
--- eight bytes, each above those behind it
-pub number-eight : (s : List ℕ) (i : ℕ) →
-    byteAt s i * 2 ^ 56 + (byteAt s (i + 1) * 2 ^ 48 + (byteAt s (i + 2) * 2 ^ 40 + (byteAt s (i + 3) * 2 ^ 32 + (byteAt s (i + 4) * 2 ^ 24 + (byteAt s (i + 5) * 2 ^ 16 + (byteAt s (i + 6) * 2 ^ 8 + byteAt s (i + 7))))))) ≡ numberAt 0 s i 8
-unfolding numberAt
-number-eight s i =
-    let p2 : byteAt s (i + 1 + 1) ≡ byteAt s (i + 2) = ap (byteAt s) (omega arith) in
-    let p3 : byteAt s (i + 1 + 1 + 1) ≡ byteAt s (i + 3) = ap (byteAt s) (omega arith) in
-    let p4 : byteAt s (i + 1 + 1 + 1 + 1) ≡ byteAt s (i + 4) = ap (byteAt s) (omega arith) in
-    let p5 : byteAt s (i + 1 + 1 + 1 + 1 + 1) ≡ byteAt s (i + 5) = ap (byteAt s) (omega arith) in
-    let p6 : byteAt s (i + 1 + 1 + 1 + 1 + 1 + 1) ≡ byteAt s (i + 6) = ap (byteAt s) (omega arith) in
-    let p7 : byteAt s (i + 1 + 1 + 1 + 1 + 1 + 1 + 1) ≡ byteAt s (i + 7) = ap (byteAt s) (omega arith) in
-    omega arith
 
 -- numbers ----------------------------------------------------------------------------------------------------------------------------------
 

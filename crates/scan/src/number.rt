@@ -2,7 +2,7 @@
 ghost use mathlib.Core.Path.{_≡_};
 ghost use Prim.Native.Nat.{_+_, _*_, _^_, _<_, _≤_};
 ghost use lib.ListN.{length};
-ghost use Rattle.aliases.specs.Number.{numberAt};
+ghost use Rattle.scan.specs.Number.{numberAt};
 
 // A byte above k bits.
 fn above(b: u8, k: u64, rest: u64) -> u64

@@ -1,14 +1,9 @@
--- Bytes as a number, the first the highest; and which of two places' bytes come first.
+-- Which of two places' bytes come first.
 -- Assumes nothing.
 use mathlib.Core.Path.{_≡_}
 use mathlib.Core.List.{List}
-use Prim.Native.Nat.{ℕ, zero, suc, _+_, _*_, _<_}
+use Prim.Native.Nat.{ℕ, _+_, _<_}
 use Rattle.scan.specs.Scan.{byteAt}
-
--- the k bytes of s from i on, behind x
-unfoldable pub numberAt : ℕ → List ℕ → ℕ → ℕ → ℕ
-numberAt x s i zero = x
-numberAt x s i (suc k) = numberAt (x * 256 + byteAt s i) s (i + 1) k
 
 -- k bytes of s from a on and from b on are alike
 abbrev pub Alike : List ℕ → ℕ → ℕ → ℕ → Type 0

@@ -2,10 +2,10 @@
 -- Assumes nothing.
 use native.Mathlib.Omega.{arith}
 use Prim.Native.Nat.{_+_}
-use Rattle.aliases.specs.NumberLaws.{number-eight}
+use Rattle.scan.specs.NumberLaws.{number-eight}
 use borrow.Author.Needs.{needs}
-use Rattle.aliases.proofs.number.eight.Statement.{statement}
-use Rattle.aliases.proofs.number.eight.Tie as tie
+use Rattle.scan.proofs.number.eight.Statement.{statement}
+use Rattle.scan.proofs.number.eight.Tie as tie
 
 add-above : tie.Need-add-above
 add-above c = search needs
