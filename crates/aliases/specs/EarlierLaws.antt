@@ -1,12 +1,12 @@
 -- Laws of bytes that come first, and of bytes as a number: their order is the number's; a number's front.
 -- Assumes nothing.
-use mathlib.Core.Path.{_≡_, refl, sym, _∙_, ap}
+use mathlib.Core.Path.{_≡_, sym, _∙_, ap}
 use mathlib.Core.List.{List}
 use Prim.Native.Nat.{ℕ, zero, suc, _+_, _*_, _-_, _^_, _/_, _<_, _≤_}
 use native.Mathlib.Omega.{arith}
 use native.Mathlib.Decide.{decLt}
 use lib.ListN.{length, drop, length-take}
-use lib.Pow.{pow-mono, pow-add, shl-shr, shr-shr, high}
+use lib.Pow.{shl-shr, shr-shr, high}
 use Rattle.scan.specs.Scan.{byteAt, partOf}
 use Rattle.scan.specs.Number.{numberAt}
 use Rattle.scan.specs.PartLaws.{part-length}
