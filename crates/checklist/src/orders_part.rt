@@ -35,10 +35,18 @@ fn turn(out: &mut [u8], line: &[u8], p: Prefixes, number: u64, s: Orders) -> Ord
     }
 }
 
+// The word behind the number of orders.
+fn put_orders_word(out: &mut [u8], at: usize, orders: u64) -> usize {
+    if orders == 1 {
+        return put_text(out, at, b" order, ");
+    }
+    put_text(out, at, b" orders, ")
+}
+
 // How many orders there are, and how many agree.
 fn put_total(out: &mut [u8], at: usize, orders: u64, agree: u64) -> usize {
     let i = put_decimal(out, at, orders);
-    let j = put_text(out, i, b" orders, ");
+    let j = put_orders_word(out, i, orders);
     let k = put_decimal(out, j, agree);
     put_text(out, k, b" agree\n")
 }
