@@ -1,5 +1,6 @@
 pub mod Line
 pub mod WordPlaces
+pub mod WordPlacesLaws
 pub mod Alone
 pub mod LineLaws
 pub mod Behind

@@ -2,7 +2,8 @@
 -- Assumes nothing.
 use mathlib.Core.Path.{_∙_, sym, ap}
 use Rattle.reading.specs.Line.{readingOf}
-use Rattle.reading.specs.WordPlaces.{afterPlace, after-place}
+use Rattle.reading.specs.WordPlaces.{afterPlace}
+use Rattle.reading.specs.WordPlacesLaws.{after-place}
 use borrow.Author.Needs.{needs}
 use Rattle.reading.proofs.line.parse_cmd_descr.Statement.{statement}
 use Rattle.reading.proofs.line.parse_cmd_descr.Tie as tie

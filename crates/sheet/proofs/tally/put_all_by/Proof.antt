@@ -4,7 +4,7 @@ use Rattle.wording.specs.Behind.{Behind}
 use lib.ListN.{length}
 use Prim.Native.Nat.{_-_}
 use borrow.Author.Needs.{needs}
-use Rattle.wording.specs.Behind.{behind-then, behind-none}
+use Rattle.wording.specs.BehindLaws.{behind-then, behind-none}
 use Rattle.sheet.proofs.tally.put_all_by.Statement.{statement}
 use Rattle.sheet.proofs.tally.put_all_by.Tie as tie
 

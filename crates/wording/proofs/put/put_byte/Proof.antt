@@ -1,6 +1,6 @@
 -- `wording::put::put_byte` meets its contract.
 -- Assumes nothing.
-use Rattle.wording.specs.Behind.{behind-byte}
+use Rattle.wording.specs.BehindLaws.{behind-byte}
 use borrow.Author.Needs.{needs}
 use Rattle.wording.proofs.put.put_byte.Statement.{statement}
 use Rattle.wording.proofs.put.put_byte.Tie as tie

@@ -1,6 +1,6 @@
 -- `wording::put::put_control` meets its contract.
 -- Assumes nothing.
-use Rattle.wording.specs.Behind.{behind-then}
+use Rattle.wording.specs.BehindLaws.{behind-then}
 use borrow.Author.Needs.{needs}
 use Rattle.wording.proofs.put.put_control.Statement.{statement}
 use Rattle.wording.proofs.put.put_control.Tie as tie

@@ -1,6 +1,6 @@
 -- `wording::put::put_quoted` meets its contract.
 -- Assumes nothing.
-use Rattle.wording.specs.Behind.{behind-then, behind-none}
+use Rattle.wording.specs.BehindLaws.{behind-then, behind-none}
 use borrow.Author.Needs.{needs}
 use Rattle.wording.specs.Behind.{Behind}
 use lib.ListN.{length}

@@ -4,7 +4,7 @@ use borrow.Author.Needs.{needs}
 use Rattle.wording.specs.Behind.{Behind}
 use lib.ListN.{length}
 use Prim.Native.Nat.{_-_}
-use Rattle.wording.specs.Behind.{behind-then, behind-none}
+use Rattle.wording.specs.BehindLaws.{behind-then, behind-none}
 use Rattle.wording.proofs.put.put_text.Statement.{statement}
 use Rattle.wording.proofs.put.put_text.Tie as tie
 

@@ -1,6 +1,6 @@
 -- `wording::record::focus` meets its contract.
 -- Assumes nothing.
-use Rattle.wording.specs.Behind.{behind-then, behind-none}
+use Rattle.wording.specs.BehindLaws.{behind-then, behind-none}
 use borrow.Author.Needs.{needs}
 use Rattle.wording.proofs.record.focus.Statement.{statement}
 use Rattle.wording.proofs.record.focus.Tie as tie

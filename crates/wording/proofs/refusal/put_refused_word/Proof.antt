@@ -1,6 +1,6 @@
 -- `wording::refusal::put_refused_word` meets its contract.
 -- Assumes nothing.
-use Rattle.wording.specs.Behind.{behind-then}
+use Rattle.wording.specs.BehindLaws.{behind-then}
 use borrow.Author.Needs.{needs}
 use Rattle.wording.proofs.refusal.put_refused_word.Statement.{statement}
 use Rattle.wording.proofs.refusal.put_refused_word.Tie as tie
