@@ -10,6 +10,7 @@ use ranges::range::RangeEnding;
 use ranges::range::RangeEndingType;
 use ranges::range::RangeRead;
 use ranges::range::RangeSpec;
+use scan::part::text_again;
 ghost use mathlib.Core.Path.{_≡_};
 ghost use Rattle.focus.specs.Focus.{toward as towardOf, placed as placedOf, endFocus, rangeFocus, focusOf, atLeastOne, sized as sizedOf, endCount, rangeCount};
 
@@ -74,9 +75,9 @@ fn end_focus(s: &[u8], e: RangeEnding, wrap: bool) -> Focused
     let from = e.from;
     let to = e.to;
     match a {
-        RangeEndingType::Absolute(n) => placed(n, sum_mods(s, from)),
-        RangeEndingType::Unspecified => toward(sum_mods(s, from), wrap),
-        RangeEndingType::Current => toward(sum_mods(s, from), wrap),
+        RangeEndingType::Absolute(n) => placed(n, sum_mods(text_again(s), from)),
+        RangeEndingType::Unspecified => toward(sum_mods(text_again(s), from), wrap),
+        RangeEndingType::Current => toward(sum_mods(text_again(s), from), wrap),
         RangeEndingType::Last => {
             if from == to {
                 return Focused::To(FocusChange::End);
@@ -132,7 +133,7 @@ fn end_count(s: &[u8], e: RangeEnding) -> Counted
     let a = e.atom;
     let from = e.from;
     match a {
-        RangeEndingType::Absolute(n) => sized(n, sum_mods(s, from)),
+        RangeEndingType::Absolute(n) => sized(n, sum_mods(text_again(s), from)),
         RangeEndingType::Unspecified => Counted::Exact(18446744073709551615),
         RangeEndingType::Current => Counted::Exact(18446744073709551615),
         RangeEndingType::Last => Counted::Exact(18446744073709551615),

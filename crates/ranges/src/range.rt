@@ -8,6 +8,7 @@ use scan::decimal::digits;
 use scan::decimal::is_digit;
 use scan::decimal::many_digits;
 use scan::part::byte_at;
+use scan::part::text_again;
 ghost use mathlib.Core.Path.{_≡_};
 ghost use mathlib.Core.Bool.{cond, _||_};
 ghost use lib.Dec.{eqb};
@@ -207,7 +208,7 @@ fn parse_range_atom(s: &[u8], at: usize, classes: &[u8; 256]) -> AtomRead
     requires { ⌜ Classes (now classes) ⌝ }
     ensures { λ r. ⌜ r ≡ atomAt (now (s .entry)) at ⌝ }
 {
-    match digits(s, at) {
+    match digits(text_again(s), at) {
         Decimal::Value(n, next) => AtomRead::Found(RangeEndingType::Absolute(n), next),
         Decimal::TooLarge => AtomRead::TooLarge,
         Decimal::Absent => {
@@ -242,9 +243,9 @@ fn parse_range_ending(s: &[u8], at: usize, classes: &[u8; 256]) -> EndingRead
         AtomRead::Absent => with_offsets(
             RangeEndingType::Unspecified,
             at,
-            parse_range_modifiers(s, at),
+            parse_range_modifiers(text_again(s), at),
         ),
-        AtomRead::Found(a, j) => with_offsets(a, j, parse_range_modifiers(s, j)),
+        AtomRead::Found(a, j) => with_offsets(a, j, parse_range_modifiers(text_again(s), j)),
         AtomRead::TooLarge => EndingRead::TooLarge,
     }
 }

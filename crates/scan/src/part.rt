@@ -25,3 +25,10 @@ pub fn part(s: &[u8], a: usize, e: usize) -> &[u8]
     }
     &s[n..]
 }
+
+// The same text, lent again: its place and its length are then read one by one, as they were written, and go on in registers.
+pub fn text_again(s: &[u8]) -> &[u8]
+    ensures { λ r. ⌜ now r ≡ now (s .entry) ⌝ }
+{
+    &s[0..]
+}

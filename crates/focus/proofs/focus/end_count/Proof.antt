@@ -8,6 +8,9 @@ use Rattle.focus.proofs.focus.end_count.Tie as tie
 enum-known-a : tie.Need-enum-known-a
 enum-known-a c = search needs
 
+text-again-requires : tie.Need-text-again-requires
+text-again-requires c κs = search needs
+
 sum-mods-requires : tie.Need-sum-mods-requires
 sum-mods-requires c κs = search needs
 
@@ -37,7 +40,7 @@ enum-told-7 c = search needs
 
 returns : tie.Need-returns
 unfolding endCount
-returns c = rw (c .sized .ensures, c .before .sum-mods .ensures, c .before .before .before .a .given .1)
+returns c = rw (c .sized .ensures, c .before .sum-mods .ensures, c .before .before .text-again .ensures, c .before .before .before .before .a .given .1)
 
 returns-2 : tie.Need-returns-2
 unfolding endCount
@@ -72,6 +75,7 @@ end-count-spec =
     tie.close
     (tie.spec
     enum-known-a
+    text-again-requires
     sum-mods-requires
     sized-requires
     enum-told

@@ -9,6 +9,9 @@ use Rattle.focus.proofs.focus.end_focus.Tie as tie
 enum-known-a : tie.Need-enum-known-a
 enum-known-a c = search needs
 
+text-again-requires : tie.Need-text-again-requires
+text-again-requires c κs = search needs
+
 sum-mods-requires : tie.Need-sum-mods-requires
 sum-mods-requires c κs = search needs
 
@@ -18,6 +21,9 @@ placed-requires c κs = search needs
 enum-told : tie.Need-enum-told
 enum-told c = search needs
 
+text-again-requires-2 : tie.Need-text-again-requires-2
+text-again-requires-2 c κs = search needs
+
 sum-mods-requires-2 : tie.Need-sum-mods-requires-2
 sum-mods-requires-2 c κs = search needs
 
@@ -26,6 +32,9 @@ toward-requires c κs = search needs
 
 enum-told-2 : tie.Need-enum-told-2
 enum-told-2 c = search needs
+
+text-again-requires-3 : tie.Need-text-again-requires-3
+text-again-requires-3 c κs = search needs
 
 sum-mods-requires-3 : tie.Need-sum-mods-requires-3
 sum-mods-requires-3 c κs = search needs
@@ -54,15 +63,15 @@ enum-told-7 c = search needs
 
 returns-2 : tie.Need-returns-2
 unfolding endFocus
-returns-2 c = rw (c .placed .ensures, c .before .sum-mods .ensures, c .before .before .before .a .given .1)
+returns-2 c = rw (c .placed .ensures, c .before .sum-mods .ensures, c .before .before .text-again .ensures, c .before .before .before .before .a .given .1)
 
 returns-3 : tie.Need-returns-3
 unfolding endFocus
-returns-3 c = rw (c .toward .ensures, c .before .sum-mods2 .ensures, c .before .before .enum-told .given .1)
+returns-3 c = rw (c .toward .ensures, c .before .sum-mods2 .ensures, c .before .before .text-again2 .ensures, c .before .before .before .enum-told .given .1)
 
 returns-4 : tie.Need-returns-4
 unfolding endFocus
-returns-4 c = rw (c .toward2 .ensures, c .before .sum-mods3 .ensures, c .before .before .enum-told2 .given .1)
+returns-4 c = rw (c .toward2 .ensures, c .before .sum-mods3 .ensures, c .before .before .text-again3 .ensures, c .before .before .before .enum-told2 .given .1)
 
 returns-5 : tie.Need-returns-5
 unfolding endFocus
@@ -89,12 +98,15 @@ end-focus-spec =
     tie.close
     (tie.spec
     enum-known-a
+    text-again-requires
     sum-mods-requires
     placed-requires
     enum-told
+    text-again-requires-2
     sum-mods-requires-2
     toward-requires
     enum-told-2
+    text-again-requires-3
     sum-mods-requires-3
     toward-requires-2
     enum-told-3

@@ -1,11 +1,15 @@
 -- `range::parse_range_atom` meets its contract.
 -- Assumes nothing.
-use mathlib.Core.Path.{sym, _∙_}
+use mathlib.Core.Path.{sym, _∙_, ap}
 use lib.ListN.{List·getD-eq-default}
+use Rattle.scan.specs.Scan.{digitsAt}
 use Rattle.ranges.specs.Range.{atomAt, numberOr, signAtom}
 use borrow.Author.Needs.{needs}
 use Rattle.ranges.proofs.range.parse_range_atom.Statement.{statement}
 use Rattle.ranges.proofs.range.parse_range_atom.Tie as tie
+
+text-again-requires : tie.Need-text-again-requires
+text-again-requires c κs = search needs
 
 digits-requires : tie.Need-digits-requires
 digits-requires c κs = search needs
@@ -33,26 +37,27 @@ parse-range-sign-requires c κs = search needs
 
 returns : tie.Need-returns
 unfolding atomAt numberOr
-returns c = rw (sym (c .before .before .before .digits .ensures) ∙ c .before .n .given .1)
+returns c = rw (sym (c .before .before .before .digits .ensures ∙ ap (λ x. digitsAt x (c .before .before .before .before .before .before .args .at)) (c .before .before .before .before .text-again .ensures)) ∙ c .before .n .given .1)
 
 returns-2 : tie.Need-returns-2
 unfolding atomAt numberOr
-returns-2 c = rw (sym (c .before .before .digits .ensures) ∙ c .enum-told .given .1)
+returns-2 c = rw (sym (c .before .before .digits .ensures ∙ ap (λ x. digitsAt x (c .before .before .before .before .before .args .at)) (c .before .before .before .text-again .ensures)) ∙ c .enum-told .given .1)
 
 returns-3 : tie.Need-returns-3
 unfolding atomAt numberOr
-returns-3 c = rw (sym (c .before .before .before .before .before .before .digits .ensures) ∙ c .before .before .before .before .enum-told2 .given .1, c .parse-range-sign .ensures, c .before .byte-at .ensures)
+returns-3 c = rw (sym (c .before .before .before .before .before .before .digits .ensures ∙ ap (λ x. digitsAt x (c .before .before .before .before .before .before .before .before .before .args .at)) (c .before .before .before .before .before .before .before .text-again .ensures)) ∙ c .before .before .before .before .enum-told2 .given .1, c .parse-range-sign .ensures, c .before .byte-at .ensures)
 
 returns-4 : tie.Need-returns-4
 unfolding atomAt numberOr signAtom
 returns-4 c =
-    let s = c .before .before .before .before .before .args .s .now in
-    rw (sym (c .before .before .before .digits .ensures) ∙ c .before .enum-told2 .given .1, List·getD-eq-default s 0 (c .if1 .left))
+    let s = c .before .before .before .before .before .before .args .s .now in
+    rw (sym (c .before .before .before .digits .ensures ∙ ap (λ x. digitsAt x (c .before .before .before .before .before .before .args .at)) (c .before .before .before .before .text-again .ensures)) ∙ c .before .enum-told2 .given .1, List·getD-eq-default s 0 (c .if1 .left))
 
 pub parse-range-atom-spec : {M : Type 1} → statement M
 parse-range-atom-spec =
     tie.close
     (tie.spec
+    text-again-requires
     digits-requires
     enum-known-n
     enum-told

@@ -12,6 +12,9 @@ parse-range-atom-requires c κs = search needs
 enum-told : tie.Need-enum-told
 enum-told c = search needs
 
+text-again-requires : tie.Need-text-again-requires
+text-again-requires c κs = search needs
+
 parse-range-modifiers-requires : tie.Need-parse-range-modifiers-requires
 parse-range-modifiers-requires c κs = search needs
 
@@ -20,6 +23,9 @@ with-offsets-requires c κs = search needs
 
 enum-known-a : tie.Need-enum-known-a
 enum-known-a c = search needs
+
+text-again-requires-2 : tie.Need-text-again-requires-2
+text-again-requires-2 c κs = search needs
 
 parse-range-modifiers-requires-2 : tie.Need-parse-range-modifiers-requires-2
 parse-range-modifiers-requires-2 c κs = search needs
@@ -32,11 +38,11 @@ enum-told-2 c = search needs
 
 returns : tie.Need-returns
 unfolding endingAt afterAtom
-returns c = rw (sym (c .before .before .before .before .parse-range-atom .ensures) ∙ c .before .before .enum-told .given .1, c .with-offsets .ensures, c .before .parse-range-modifiers .ensures)
+returns c = rw (sym (c .before .before .before .before .before .parse-range-atom .ensures) ∙ c .before .before .before .enum-told .given .1, c .with-offsets .ensures, c .before .parse-range-modifiers .ensures, c .before .before .text-again .ensures)
 
 returns-2 : tie.Need-returns-2
 unfolding endingAt afterAtom
-returns-2 c = rw (sym (c .before .before .before .before .before .parse-range-atom .ensures) ∙ c .before .before .before .a .given .1, c .with-offsets2 .ensures, c .before .parse-range-modifiers2 .ensures)
+returns-2 c = rw (sym (c .before .before .before .before .before .before .parse-range-atom .ensures) ∙ c .before .before .before .before .a .given .1, c .with-offsets2 .ensures, c .before .parse-range-modifiers2 .ensures, c .before .before .text-again2 .ensures)
 
 returns-3 : tie.Need-returns-3
 unfolding endingAt afterAtom
@@ -48,9 +54,11 @@ parse-range-ending-spec =
     (tie.spec
     parse-range-atom-requires
     enum-told
+    text-again-requires
     parse-range-modifiers-requires
     with-offsets-requires
     enum-known-a
+    text-again-requires-2
     parse-range-modifiers-requires-2
     with-offsets-requires-2
     enum-told-2
