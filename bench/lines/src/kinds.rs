@@ -116,25 +116,39 @@ pub fn sheet() -> Kind {
     }
 }
 
-/// Random lines of a fresh session, of up to 60 bytes; those that are refused by 4 or 7, at which the Rust panics or wraps, are left out.
-pub fn mixed() -> Kind {
+/// Random lines of a fresh session that `take` takes; those that are refused by 4 or 7, at which the Rust panics or wraps, are left out.
+fn random(count: usize, take: fn(usize) -> bool) -> Vec<String> {
     let mut requests = Requests::new(7, Ops::Lines);
     let mut entry = Entry::fresh();
     let mut lines = Vec::new();
 
-    while lines.len() < 20_000 {
+    while lines.len() < count {
         let (op, text) = requests.request();
         let Ok(line) = String::from_utf8(text) else { continue };
 
-        if op == Op::Line && line.len() <= 60 && !matches!(entry.line(&line).refusal, 4 | 7) {
+        if op == Op::Line && take(line.len()) && !matches!(entry.line(&line).refusal, 4 | 7) {
             lines.push(line);
         }
     }
 
-    let bytes: usize = lines.iter().map(String::len).sum();
-    Kind {
-        name: format!("20,000 mixed lines, {} bytes each", bytes / lines.len()),
+    lines
+}
+
+/// Random lines: of up to 60 bytes, of 30 bytes, and some of these so often one after the other that the processor foresees what they do.
+pub fn mixed() -> [Kind; 3] {
+    let any = random(20_000, |bytes| bytes <= 60);
+    let thirty = random(200_000, |bytes| bytes == 30);
+    let often = thirty[..2_000].iter().flat_map(|line| vec![line.clone(); 20]).collect();
+    let bytes: usize = any.iter().map(String::len).sum();
+
+    [
+        (format!("20,000 mixed lines, {} bytes each", bytes / any.len()), any),
+        ("200,000 mixed lines, 30 bytes each".to_owned(), thirty),
+        ("2,000 of these, each 20 times in a row".to_owned(), often),
+    ]
+    .map(|(name, lines)| Kind {
+        name,
         aliases: 0,
         lines,
-    }
+    })
 }

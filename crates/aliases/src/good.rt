@@ -3,9 +3,10 @@ use super::add::count;
 use super::order::Order;
 use super::order::compare;
 use super::quick::quickly_good;
+use scan::classes::Kind;
 use scan::part::byte_at;
 use scan::part::part;
-use scan::run::word_end;
+use scan::run::run_end;
 ghost use mathlib.Core.Path.{_≡_};
 ghost use mathlib.Core.List.{[]};
 ghost use Rattle.scan.specs.Bytes.{Classes};
@@ -23,7 +24,7 @@ pub fn is_alias(w: &[u8], classes: &[u8; 256]) -> bool
     if 24 < n {
         return false;
     }
-    word_end(w, 0, classes) == n
+    run_end(w, 0, classes, Kind::Word) == n
 }
 
 fn is_less(o: Order) -> bool

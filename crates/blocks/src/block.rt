@@ -2,6 +2,7 @@
 use super::test::either;
 use super::test::is_blank;
 use super::test::is_sign;
+use super::test::not_letter;
 use super::test::not_quoted;
 use super::test::not_space;
 use scan::classes::Kind;
@@ -9,7 +10,7 @@ ghost use mathlib.Core.Path.{_≡_};
 ghost use mathlib.Core.Bool.{false};
 ghost use Prim.Native.Nat.{_+_, _≤_};
 ghost use lib.ListN.{length};
-ghost use Rattle.scan.specs.Bytes.{isKind, isSpace, isPlain, isQuoted};
+ghost use Rattle.scan.specs.Bytes.{isKind, isSpace, isWord, isPlain, isQuoted};
 ghost use Rattle.scan.specs.Scan.{runAt};
 
 // How many bytes a block has.
@@ -24,6 +25,20 @@ fn any_not_space(s: &[u8], at: usize) -> bool
     let mut i: usize = 0;
     while i < BLOCK {
         m = either(m, not_space(s[at + i]));
+        i += 1;
+    }
+    m
+}
+
+// False only where the block at `at` is of letters; a word's other characters are read one by one.
+fn any_not_letter(s: &[u8], at: usize) -> bool
+    requires { ⌜ at + 32 ≤ length (now s) ⌝ }
+    ensures { λ r. ⌜ (r ≡ false → runAt isWord (now (s .entry)) at ≡ runAt isWord (now (s .entry)) (at + 32)) ⌝ }
+{
+    let mut m = false;
+    let mut i: usize = 0;
+    while i < BLOCK {
+        m = either(m, not_letter(s[at + i]));
         i += 1;
     }
     m
@@ -68,11 +83,11 @@ fn any_foreign(s: &[u8], at: usize, k: Kind) -> bool
 {
     match k {
         Kind::Space => any_not_space(s, at),
+        Kind::Word => any_not_letter(s, at),
         Kind::Plain => any_not_plain(s, at),
         Kind::Quoted => any_not_quoted(s, at),
         Kind::Colon => true,
         Kind::Digit => true,
-        Kind::Word => true,
         Kind::Mark => true,
         Kind::Text => true,
     }

@@ -5,12 +5,15 @@ use scan::classes::is_kind;
 use scan::part::byte_at;
 use scan::run::run_end;
 ghost use mathlib.Core.Path.{_≡_};
-ghost use Rattle.scan.specs.Bytes.{Classes, isKind, isSpace, isPlain, isQuoted};
+ghost use Rattle.scan.specs.Bytes.{Classes, isKind, isSpace, isWord, isPlain, isQuoted};
 ghost use Rattle.scan.specs.Scan.{runAt};
 ghost use Rattle.blocks.specs.Blocks.{Probed};
 
 // How many bytes of a run are tested one by one before blocks are.
 const FIRST: usize = 16;
+
+// How long a text is where a word may be long.
+const LONG: usize = 64;
 
 // A run's first bytes: it ends among them, or it goes on behind them.
 pub enum RunStart {
@@ -49,6 +52,17 @@ fn spaces_end(s: &[u8], at: usize, classes: &[u8; 256]) -> usize
     }
 }
 
+// Past the word's bytes from `at` on: some one by one, then by blocks.
+fn letters_end(s: &[u8], at: usize, classes: &[u8; 256]) -> usize
+    requires { ⌜ Classes (now classes) ⌝ }
+    ensures { λ r. ⌜ r ≡ runAt isWord (now (s .entry)) at ⌝ }
+{
+    match probe(s, at, classes, Kind::Word) {
+        RunStart::Ends(i) => i,
+        RunStart::GoesOn(i) => run_end(s, blocks_end(s, i, Kind::Word), classes, Kind::Word),
+    }
+}
+
 // Past the bytes that stand for themselves in plain text from `at` on: some one by one, then by blocks.
 fn plain_end(s: &[u8], at: usize, classes: &[u8; 256]) -> usize
     requires { ⌜ Classes (now classes) ⌝ }
@@ -78,11 +92,11 @@ pub fn long_run_end(s: &[u8], at: usize, classes: &[u8; 256], k: Kind) -> usize
 {
     match k {
         Kind::Space => spaces_end(s, at, classes),
+        Kind::Word => letters_end(s, at, classes),
         Kind::Plain => plain_end(s, at, classes),
         Kind::Quoted => quoted_end(s, at, classes),
         Kind::Colon => run_end(s, at, classes, k),
         Kind::Digit => run_end(s, at, classes, k),
-        Kind::Word => run_end(s, at, classes, k),
         Kind::Mark => run_end(s, at, classes, k),
         Kind::Text => run_end(s, at, classes, k),
     }
@@ -122,4 +136,15 @@ pub fn skip_spaces(s: &[u8], at: usize, classes: &[u8; 256]) -> usize
         return i;
     }
     long_run_end(s, i, classes, Kind::Space)
+}
+
+// Past the word at `at`: in a short text one by one.
+pub fn word_end(s: &[u8], at: usize, classes: &[u8; 256]) -> usize
+    requires { ⌜ Classes (now classes) ⌝ }
+    ensures { λ r. ⌜ r ≡ runAt isWord (now (s .entry)) at ⌝ }
+{
+    if s.len() < LONG {
+        return run_end(s, at, classes, Kind::Word);
+    }
+    long_run_end(s, at, classes, Kind::Word)
 }

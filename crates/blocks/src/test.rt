@@ -1,8 +1,9 @@
 // Tests of one byte, by comparisons, which vector instructions have.
+use scan::byte::within;
 ghost use mathlib.Core.Path.{_≡_};
 ghost use mathlib.Core.Bool.{true, false, _||_};
 ghost use lib.Dec.{eqb};
-ghost use Rattle.scan.specs.Bytes.{isSpace, isQuoted};
+ghost use Rattle.scan.specs.Bytes.{isSpace, isWord, isQuoted};
 
 pub fn either(a: bool, b: bool) -> bool
     ensures { λ r. ⌜ r ≡ (a || b) ⌝ }
@@ -15,6 +16,13 @@ pub fn not_space(b: u8) -> bool
     ensures { λ r. ⌜ (r ≡ false → isSpace b ≡ true) ⌝ }
 {
     !either(b == 0x20, b == 0x09)
+}
+
+// False only for a letter, which is a word's.
+pub fn not_letter(b: u8) -> bool
+    ensures { λ r. ⌜ (r ≡ false → isWord b ≡ true) ⌝ }
+{
+    !either(within(0x41, 0x5A, b), within(0x61, 0x7A, b))
 }
 
 // Whether a byte is a space or 0x0A.

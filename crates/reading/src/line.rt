@@ -1,6 +1,7 @@
 // One reading of a text: range, word, bang and where the argument stands.
 // Beside parse_cmd_name, parse_cmd_argument, parse_cmd_descr and parse of parse.rs.
 use blocks::run::skip_spaces;
+use blocks::run::word_end;
 use blocks::text::text_stop;
 use ranges::again::range_again;
 use ranges::range::RangeRead;
@@ -11,7 +12,6 @@ use scan::classes::is_kind;
 use scan::part::byte_at;
 use scan::part::part;
 use scan::run::run_end;
-use scan::run::word_end;
 ghost use mathlib.Core.Path.{_≡_};
 ghost use Prim.Native.Nat.{_<_};
 ghost use Rattle.scan.specs.Bytes.{Classes, isText};

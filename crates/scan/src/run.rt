@@ -2,7 +2,7 @@
 use super::classes::Kind;
 use super::classes::is_kind;
 ghost use mathlib.Core.Path.{_≡_};
-ghost use Rattle.scan.specs.Bytes.{Classes, isKind, isWord};
+ghost use Rattle.scan.specs.Bytes.{Classes, isKind};
 ghost use Rattle.scan.specs.Scan.{runAt};
 
 // The first position from `at` on whose byte is not of the kind, or the end.
@@ -18,11 +18,4 @@ pub fn run_end(s: &[u8], at: usize, classes: &[u8; 256], k: Kind) -> usize
         i += 1;
     }
     i
-}
-
-pub fn word_end(s: &[u8], at: usize, classes: &[u8; 256]) -> usize
-    requires { ⌜ Classes (now classes) ⌝ }
-    ensures { λ r. ⌜ r ≡ runAt isWord (now (s .entry)) at ⌝ }
-{
-    run_end(s, at, classes, Kind::Word)
 }

@@ -3,6 +3,7 @@
 use native.Mathlib.Omega.{arith}
 use lib.ListN.{length}
 use borrow.Author.Tests.{le-leb, lt-leb}
+use Rattle.scan.specs.Bytes.{isKind}
 use Rattle.aliases.specs.Good.{isAlias}
 use borrow.Author.Needs.{needs}
 use Rattle.aliases.proofs.good.is_alias.Statement.{statement}
@@ -16,12 +17,12 @@ returns-2 : tie.Need-returns-2
 unfolding isAlias
 returns-2 c = rw (le-leb 1 (length (c .before .before .before .args .w .now)) (omega (arith, c .before .if1 .left)), lt-leb _ _ (c .if2 .taken))
 
-word-end-requires : tie.Need-word-end-requires
-word-end-requires c κs = search needs
+run-end-requires : tie.Need-run-end-requires
+run-end-requires c κs = search needs
 
 returns-3 : tie.Need-returns-3
-unfolding isAlias
-returns-3 c = rw (c .word-end .ensures, le-leb 1 (length (c .before .before .before .before .args .w .now)) (omega (arith, c .before .before .if1 .left)), le-leb _ _ (c .before .if2 .left))
+unfolding isAlias isKind
+returns-3 c = rw (c .run-end .ensures, le-leb 1 (length (c .before .before .before .before .args .w .now)) (omega (arith, c .before .before .if1 .left)), le-leb _ _ (c .before .if2 .left))
 
 pub is-alias-spec : {M : Type 1} → statement M
-is-alias-spec = tie.close (tie.spec returns returns-2 word-end-requires returns-3)
+is-alias-spec = tie.close (tie.spec returns returns-2 run-end-requires returns-3)

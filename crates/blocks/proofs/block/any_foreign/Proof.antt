@@ -16,17 +16,20 @@ any-not-space-requires c κs = search needs
 enum-told-2 : tie.Need-enum-told-2
 enum-told-2 c = search needs
 
-any-not-plain-requires : tie.Need-any-not-plain-requires
-any-not-plain-requires c κs = search needs
+any-not-letter-requires : tie.Need-any-not-letter-requires
+any-not-letter-requires c κs = search needs
 
 enum-told-3 : tie.Need-enum-told-3
 enum-told-3 c = search needs
 
-any-not-quoted-requires : tie.Need-any-not-quoted-requires
-any-not-quoted-requires c κs = search needs
+any-not-plain-requires : tie.Need-any-not-plain-requires
+any-not-plain-requires c κs = search needs
 
 enum-told-4 : tie.Need-enum-told-4
 enum-told-4 c = search needs
+
+any-not-quoted-requires : tie.Need-any-not-quoted-requires
+any-not-quoted-requires c κs = search needs
 
 enum-told-5 : tie.Need-enum-told-5
 enum-told-5 c = search needs
@@ -46,14 +49,15 @@ returns c = λ h. rw (c .before .enum-told .given .1) (c .any-not-space .ensures
 
 returns-2 : tie.Need-returns-2
 unfolding isKind
-returns-2 c = λ h. rw (c .before .enum-told2 .given .1) (c .any-not-plain .ensures h)
+returns-2 c = λ h. rw (c .before .enum-told2 .given .1) (c .any-not-letter .ensures h)
 
 returns-3 : tie.Need-returns-3
 unfolding isKind
-returns-3 c = λ h. rw (c .before .enum-told3 .given .1) (c .any-not-quoted .ensures h)
+returns-3 c = λ h. rw (c .before .enum-told3 .given .1) (c .any-not-plain .ensures h)
 
 returns-4 : tie.Need-returns-4
-returns-4 c = λ h. absurd (false≢true (sym h))
+unfolding isKind
+returns-4 c = λ h. rw (c .before .enum-told4 .given .1) (c .any-not-quoted .ensures h)
 
 returns-5 : tie.Need-returns-5
 returns-5 c = λ h. absurd (false≢true (sym h))
@@ -74,10 +78,11 @@ any-foreign-spec =
     enum-told
     any-not-space-requires
     enum-told-2
-    any-not-plain-requires
+    any-not-letter-requires
     enum-told-3
-    any-not-quoted-requires
+    any-not-plain-requires
     enum-told-4
+    any-not-quoted-requires
     enum-told-5
     enum-told-6
     enum-told-7
