@@ -10,15 +10,15 @@ use store::put_bytes;
 use store::put_number;
 ghost use mathlib.Core.Path.{_≡_};
 ghost use mathlib.Core.Bool.{cond};
-ghost use Prim.Native.Nat.{_+_};
+ghost use Prim.Native.Nat.{_+_, _-_, _≤_};
 ghost use lib.Dec.{eqb};
 ghost use lib.ListN.{length};
 ghost use Rattle.scan.specs.Bytes.{Classes};
 ghost use Rattle.scan.specs.Scan.{byteAt, runAt};
 ghost use Rattle.store.specs.Sevens.{named};
-ghost use Rattle.store.specs.Splice.{Put, Room};
+ghost use Rattle.store.specs.Splice.{Put, Room, Writing};
 ghost use Rattle.lists.specs.Lists.{textAt};
-ghost use Rattle.lists.specs.TextLaws.{Escaped};
+ghost use Rattle.lists.specs.TextLaws.{Escaped, Stuck};
 ghost use Rattle.lists.specs.Text.{quotedEscape, plainEscape, escapeOf, own, stopAt as stopOf, textEndAt, bytesAt};
 
 // What a backslash and the byte after it stand for.
@@ -27,7 +27,7 @@ pub enum Escape {
     Bad,
 }
 
-// Escapes that stand one after the other: the position past them, and how many.
+// Escapes that stand one after the other: the position past them, and how many; or, where they are written, the place after.
 pub struct Escapes {
     pub at: usize,
     pub n: usize,
@@ -128,42 +128,75 @@ fn stop_at(quoted: bool, i: usize, b: u8) -> TextEnd
     TextEnd::End(i)
 }
 
-// Where the text at `at` ends.
-pub fn text_end(s: &[u8], at: usize, quoted: bool, classes: &[u8; 256]) -> TextEnd
-    requires { ⌜ Classes (now classes) ⌝ }
-    ensures { λ r. ⌜ r ≡ textEndAt quoted (now (s .entry)) at ⌝ }
+// The position of the last byte, or 0 where there is none.
+fn last_of(s: &[u8]) -> usize
+    ensures { λ r. ⌜ r ≡ length (now (s .entry)) - 1 ⌝ }
 {
-    let mut i = at;
-    loop {
-        let j = own_end(s, i, quoted, classes);
-        let b = byte_at(s, j);
-        if b != 0x5C {
-            return stop_at(quoted, j, b);
-        }
-        let Escape::Byte(_) = escape_of(quoted, byte_at(s, j + 1)) else {
-            return TextEnd::Bad;
-        };
-        i = j + 2;
-    }
+    let n = s.len();
+    if n == 0 { 0 } else { n - 1 }
 }
 
 // Past the escapes that stand at `at` one after the other, and how many.
 fn past_escapes(s: &[u8], at: usize, quoted: bool) -> Escapes
-    ensures { λ r. ⌜ Escaped quoted (now (s .entry)) at (r .at) (r .n) ⌝ }
+    ensures passed { λ r. ⌜ Escaped quoted (now (s .entry)) at (r .at) (r .n) ⌝ }
+    ensures stuck { λ r. ⌜ Stuck quoted (now (s .entry)) (r .at) ⌝ }
 {
+    let last = last_of(s);
     let mut i = at;
     let mut n: usize = 0;
-    while i < s.len() {
+    while i < last {
         if s[i] != 0x5C {
             return Escapes { at: i, n: n };
         }
-        let Escape::Byte(_) = escape_of(quoted, byte_at(s, i + 1)) else {
+        let Escape::Byte(_) = escape_of(quoted, s[i + 1]) else {
             return Escapes { at: i, n: n };
         };
         i += 2;
         n += 1;
     }
     Escapes { at: i, n: n }
+}
+
+// Where the text at `at` ends, whose first byte is a backslash.
+fn escaped_end(s: &[u8], at: usize, quoted: bool, classes: &[u8; 256]) -> TextEnd
+    requires { ⌜ Classes (now classes) ⌝ }
+    requires { ⌜ byteAt (now s) at ≡ 0x5C ⌝ }
+    ensures { λ r. ⌜ r ≡ textEndAt quoted (now (s .entry)) at ⌝ }
+{
+    let mut i = at;
+    loop {
+        let Escape::Byte(_) = escape_of(quoted, byte_at(s, i + 1)) else {
+            return TextEnd::Bad;
+        };
+        let e = past_escapes(s, i + 2, quoted);
+        let j = own_end(s, e.at, quoted, classes);
+        let b = byte_at(s, j);
+        if b != 0x5C {
+            return stop_at(quoted, j, b);
+        }
+        i = j;
+    }
+}
+
+// Where the text at `at` ends. Called at two places, `escaped_end` is compiled once, and this stays short wherever it is called.
+pub fn text_end(s: &[u8], at: usize, quoted: bool, classes: &[u8; 256]) -> TextEnd
+    requires { ⌜ Classes (now classes) ⌝ }
+    ensures { λ r. ⌜ r ≡ textEndAt quoted (now (s .entry)) at ⌝ }
+{
+    if quoted {
+        let j = own_end(s, at, true, classes);
+        let b = byte_at(s, j);
+        if b != 0x5C {
+            return stop_at(true, j, b);
+        }
+        return escaped_end(s, j, true, classes);
+    }
+    let j = own_end(s, at, false, classes);
+    let b = byte_at(s, j);
+    if b != 0x5C {
+        return stop_at(false, j, b);
+    }
+    escaped_end(s, j, false, classes)
 }
 
 // How many bytes the text at `at` stands for.
@@ -174,18 +207,41 @@ pub fn text_size(s: &[u8], at: usize, quoted: bool, classes: &[u8; 256]) -> usiz
     let mut i = at;
     let mut n: usize = 0;
     loop {
-        let j = own_end(s, i, quoted, classes);
-        n += j - i;
+        let e = past_escapes(s, i, quoted);
+        let j = own_end(s, e.at, quoted, classes);
+        n += e.n + (j - e.at);
         if byte_at(s, j) != 0x5C {
             return n;
         }
-        let Escape::Byte(_) = escape_of(quoted, byte_at(s, j + 1)) else {
+        if j == e.at {
             return n;
-        };
-        let e = past_escapes(s, j + 2, quoted);
-        n += e.n + 1;
-        i = e.at;
+        }
+        i = j;
     }
+}
+
+// Writes what the escapes that stand at `at` one after the other stand for, from place `to` on.
+fn put_escapes(s: &[u8], at: usize, quoted: bool, store: &mut [u8], to: usize) -> Escapes
+    requires { ⌜ Room (now store) to (bytesAt quoted (now s) at) ⌝ }
+    ensures writes { λ r. ⌜ Writing (now (store .entry)) to (bytesAt quoted (now (s .entry)) at) (now (store .exit)) (r .n) (bytesAt quoted (now (s .entry)) (r .at)) ⌝ }
+    ensures later { λ r. ⌜ at ≤ r .at ⌝ }
+    ensures stuck { λ r. ⌜ Stuck quoted (now (s .entry)) (r .at) ⌝ }
+{
+    let last = last_of(s);
+    let mut i = at;
+    let mut n = to;
+    while i < last {
+        if s[i] != 0x5C {
+            return Escapes { at: i, n: n };
+        }
+        let Escape::Byte(c) = escape_of(quoted, s[i + 1]) else {
+            return Escapes { at: i, n: n };
+        };
+        store[n] = c;
+        i += 2;
+        n += 1;
+    }
+    Escapes { at: i, n: n }
 }
 
 // Writes the bytes that the text at `at` stands for from place `to` on, and answers the place after them.
@@ -204,17 +260,17 @@ pub fn copy_text(
     let mut i = at;
     let mut n = to;
     loop {
-        let j = own_end(s, i, quoted, classes);
-        let m = put_bytes(store, n, part(s, i, j));
+        let e = put_escapes(s, i, quoted, store, n);
+        let j = own_end(s, e.at, quoted, classes);
+        let m = put_bytes(store, e.n, part(s, e.at, j));
         if byte_at(s, j) != 0x5C {
             return m;
         }
-        let Escape::Byte(c) = escape_of(quoted, byte_at(s, j + 1)) else {
+        if j == e.at {
             return m;
-        };
-        store[m] = c;
-        n = m + 1;
-        i = j + 2;
+        }
+        i = j;
+        n = m;
     }
 }
 
@@ -236,7 +292,8 @@ pub fn put_text(
         let i = put_number(store, to, (j - at) as u64);
         return put_bytes(store, i, part(s, at, j));
     }
-    let n = text_size(s, at, quoted, classes);
-    let i = put_number(store, to, n as u64);
-    copy_text(s, at, quoted, classes, store, i)
+    let n = text_size(s, j, quoted, classes);
+    let i = put_number(store, to, (j - at + n) as u64);
+    let k = put_bytes(store, i, part(s, at, j));
+    copy_text(s, j, quoted, classes, store, k)
 }

@@ -1,36 +1,37 @@
--- `text::past_escapes` meets its contract. The invariant is the contract, at i and n.
+-- `text::past_escapes` meets its contract. The invariant is the contract's first part, at i and n.
 -- Assumes nothing.
-use mathlib.Core.Path.{_≡_, _∙_, sym, ap}
+use mathlib.Core.Path.{_∙_, sym}
 use Prim.Native.Nat.{_-_, _+_, _<_}
 use native.Mathlib.Omega.{arith}
-use lib.ListN.{length, getD}
-use Rattle.lists.specs.Text.{escapeOf, bytesAt}
-use Rattle.lists.specs.declared.text.Escape.{Escape}
-use Rattle.lists.specs.TextLaws.{Escaped, escaped-none, escaped-on, escape-inside, bytes-length}
+use lib.ListN.{length}
+use Rattle.lists.specs.TextLaws.{Escaped, escaped-none, escaped-on, stuck-last, bytes-length}
 use borrow.Author.Needs.{needs}
 use Rattle.lists.proofs.text.past_escapes.Statement.{statement}
 use Rattle.lists.proofs.text.past_escapes.Tie as tie
 
 abbrev Inv-loop : tie.InvT-loop
-Inv-loop s at quoted i₀ n₀ i n = Escaped quoted s at i n
+Inv-loop s at quoted last i₀ n₀ i n = Escaped quoted s at i n
 
 abbrev μ-loop : tie.MeasureT-loop
-μ-loop s at quoted i₀ n₀ i n = length s - i
+μ-loop s at quoted last i₀ n₀ i n = length s - i
+
+last-of-requires : tie.Need-last-of-requires Inv-loop μ-loop
+last-of-requires c κs = search needs
 
 loop-holds : tie.Need-loop-holds Inv-loop μ-loop
 loop-holds c = escaped-none _ _ _
 
 shared-slice-read-if1 : tie.Need-shared-slice-read-if1 Inv-loop μ-loop
-shared-slice-read-if1 c = search needs
+shared-slice-read-if1 c = omega (arith, c .before .loop-test .taken, c .before .before .before .last-of .ensures)
 
 returns : tie.Need-returns Inv-loop μ-loop
-returns c = search needs
+returns c = (c .before .before .before .loop .inv, λ e. absurd (c .if1 .taken e))
 
-add-byte-at : tie.Need-add-byte-at Inv-loop μ-loop
-add-byte-at c = search needs
+add-escape-of : tie.Need-add-escape-of Inv-loop μ-loop
+add-escape-of c = omega (arith, c .before .before .loop-test .taken, c .before .before .before .before .last-of .ensures)
 
-byte-at-requires : tie.Need-byte-at-requires Inv-loop μ-loop
-byte-at-requires c κs = search needs
+shared-slice-read-escape-of : tie.Need-shared-slice-read-escape-of Inv-loop μ-loop
+shared-slice-read-escape-of c = omega (arith, c .before .before .before .loop-test .taken, c .before .before .before .before .before .last-of .ensures)
 
 escape-of-requires : tie.Need-escape-of-requires Inv-loop μ-loop
 escape-of-requires c κs = search needs
@@ -42,23 +43,20 @@ enum-told-2 : tie.Need-enum-told-2 Inv-loop μ-loop
 enum-told-2 c = search needs
 
 returns-2 : tie.Need-returns-2 Inv-loop μ-loop
-returns-2 c = search needs
+returns-2 c = (c .before .before .before .before .before .before .before .loop .inv, λ e. sym (c .before .before .escape-of .ensures) ∙ c .enum-told2 .given .1)
 
--- at an escape: what it stands for, that it stands within the text, and that it is passed
-taken : (c : tie.After-enum-told Inv-loop μ-loop) → escapeOf (c .before .before .before .before .before .before .before .before .before .args .quoted) (getD (c .before .before .before .before .before .before .before .before .before .args .s .now) (c .before .before .before .before .before .before .before .loop .i + 1) 0) ≡ Escape.Byte (c .enum-told .given .0 .0)
-taken c = sym (c .before .before .escape-of .ensures ∙ ap (escapeOf _) (c .before .before .before .byte-at .ensures)) ∙ c .enum-told .given .1
+-- at an escape: that it stands within the text, and that it is passed
+next : (c : tie.After-enum-told Inv-loop μ-loop) → c .before .before .before .before .before .before .before .loop .i + 1 < length (c .before .before .before .before .before .before .before .before .before .before .args .s .now)
+next c = omega (arith, c .before .before .before .before .before .before .loop-test .taken, c .before .before .before .before .before .before .before .before .last-of .ensures)
 
-next : (c : tie.After-enum-told Inv-loop μ-loop) → c .before .before .before .before .before .before .before .loop .i + 1 < length (c .before .before .before .before .before .before .before .before .before .args .s .now)
-next c = escape-inside _ (c .before .before .before .before .before .before .before .before .before .args .s .now) _ _ (taken c)
-
-passed : (c : tie.After-enum-told Inv-loop μ-loop) → let a = c .before .before .before .before .before .before .before .before .before .args in let l = c .before .before .before .before .before .before .before .loop in Escaped (a .quoted) (a .s .now) (a .at) (l .i + 2) (l .n + 1)
-passed c = escaped-on _ _ _ _ _ _ (c .before .before .before .before .before .before .before .loop .inv) (c .before .before .before .before .if1 .left) (taken c)
+passed : (c : tie.After-enum-told Inv-loop μ-loop) → let a = c .before .before .before .before .before .before .before .before .before .before .args in let l = c .before .before .before .before .before .before .before .loop in Escaped (a .quoted) (a .s .now) (a .at) (l .i + 2) (l .n + 1)
+passed c = escaped-on _ _ _ _ _ _ (c .before .before .before .before .before .before .before .loop .inv) (c .before .before .before .before .if1 .left) (sym (c .before .before .escape-of .ensures) ∙ c .enum-told .given .1)
 
 add-i : tie.Need-add-i Inv-loop μ-loop
 add-i c = omega (arith, next c)
 
 add-n : tie.Need-add-n Inv-loop μ-loop
-add-n c = let a = c .before .before .before .before .before .before .before .before .before .args in omega (arith, passed c .count, bytes-length (a .quoted) (a .s .now) (a .at))
+add-n c = let a = c .before .before .before .before .before .before .before .before .before .before .args in omega (arith, passed c .count, bytes-length (a .quoted) (a .s .now) (a .at))
 
 loop-less : tie.Need-loop-less Inv-loop μ-loop
 loop-less c = omega (arith, next c)
@@ -67,7 +65,7 @@ loop-again : tie.Need-loop-again Inv-loop μ-loop
 loop-again c = passed c
 
 returns-3 : tie.Need-returns-3 Inv-loop μ-loop
-returns-3 c = search needs
+returns-3 c = (c .before .loop .inv, stuck-last (c .before .before .before .before .args .quoted) (c .before .before .before .before .args .s .now) (c .before .loop .i) (omega (arith, c .loop-test .left, c .before .before .last-of .ensures)))
 
 pub past-escapes-spec : {M : Type 1} → statement M
 past-escapes-spec =
@@ -75,11 +73,12 @@ past-escapes-spec =
     (tie.spec
     Inv-loop
     μ-loop
+    last-of-requires
     loop-holds
     shared-slice-read-if1
     returns
-    add-byte-at
-    byte-at-requires
+    add-escape-of
+    shared-slice-read-escape-of
     escape-of-requires
     enum-told
     enum-told-2

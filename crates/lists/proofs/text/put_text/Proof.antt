@@ -1,15 +1,16 @@
 -- `text::put_text` meets its contract: a number and then the bytes.
 -- Assumes nothing.
 use mathlib.Core.Path.{_≡_, _∙_, sym, ap}
-use Prim.Native.Nat.{_-_}
+use mathlib.Core.List.{_++_}
+use Prim.Native.Nat.{_-_, _+_}
 use native.Mathlib.Omega.{arith}
 use lib.ListN.{length}
 use Rattle.scan.specs.Scan.{byteAt, partOf}
 use Rattle.scan.specs.RunLaws.{runAt-le}
 use Rattle.store.specs.Sevens.{named}
-use Rattle.store.specs.Splice.{put-then, room-first, room-next}
+use Rattle.store.specs.Splice.{Room, put-then, room-first, room-next}
 use Rattle.lists.specs.Text.{own, bytesAt}
-use Rattle.lists.specs.TextLaws.{run-length, bytes-whole}
+use Rattle.lists.specs.TextLaws.{run-length, bytes-run, bytes-count, bytes-length, bytes-whole}
 use borrow.Author.Needs.{needs}
 use Rattle.lists.proofs.text.put_text.Statement.{statement}
 use Rattle.lists.proofs.text.put_text.Tie as tie
@@ -56,20 +57,45 @@ returns c = put-then (rw (sized (c .before .before .before .before .before .befo
 text-size-requires : tie.Need-text-size-requires
 text-size-requires c κs = search needs
 
+-- with one: the first bytes and the text behind them, how many bytes both are, and that there is room for both behind the number
+runs : (c : tie.After-own-end) → let a = c .before .before .before .args in bytesAt (a .quoted) (a .s .now) (a .at) ≡ partOf (a .s .now) (a .at) (c .own-end .result) ++ bytesAt (a .quoted) (a .s .now) (c .own-end .result)
+runs c = rw (c .own-end .ensures) (bytes-run _ _ _)
+
+counted : (c : tie.After-text-size) → c .before .before .before .own-end .result - c .before .before .before .before .before .before .args .at + c .text-size .result ≡ length (bytesAt (c .before .before .before .before .before .before .args .quoted) (c .before .before .before .before .before .before .args .s .now) (c .before .before .before .before .before .before .args .at))
+counted c = rw (c .text-size .ensures, c .before .before .before .own-end .ensures) (sym (bytes-count (c .before .before .before .before .before .before .args .quoted) (c .before .before .before .before .before .before .args .s .now) (c .before .before .before .before .before .before .args .at)))
+
+room : (c : tie.After-put-number2) →
+    let a = c .before .before .before .before .before .before .before .before .args in
+    let j = c .before .before .before .before .before .own-end .result in
+    Room (c .put-number2 .last .0) (c .put-number2 .result) (partOf (a .s .now) (a .at) j ++ bytesAt (a .quoted) (a .s .now) j)
+unfolding named
+room c = rw (← runs (c .before .before .before .before .before)) (room-next (rw (counted (c .before .before)) at (c .put-number2 .ensures)) (c .before .before .before .before .before .before .before .before .pre .1))
+
+sub-put-number-2 : tie.Need-sub-put-number-2
+sub-put-number-2 c = let a = c .before .before .before .before .before .before .before .args in omega (arith, c .before .before .before .before .own-end .ensures, runAt-le (own (a .quoted)) (a .s .now) (a .at))
+
+add-put-number : tie.Need-add-put-number
+add-put-number c = let a = c .before .before .before .before .before .before .before .args in omega (arith, counted (c .before), bytes-length (a .quoted) (a .s .now) (a .at))
+
 put-number-requires-2 : tie.Need-put-number-requires-2
 unfolding named
-put-number-requires-2 c κs = rw (c .before .text-size .ensures) (room-first _ _ (c .before .before .before .before .before .before .before .pre .1))
+put-number-requires-2 c κs = rw (counted (c .before)) (room-first _ _ (c .before .before .before .before .before .before .before .pre .1))
+
+part-requires-2 : tie.Need-part-requires-2
+part-requires-2 c κs = search needs
+
+put-bytes-requires-2 : tie.Need-put-bytes-requires-2
+put-bytes-requires-2 c κs = rw (c .part2 .ensures) (room-first _ _ (room (c .before .before .before .before)))
 
 copy-text-requires : tie.Need-copy-text-requires
-unfolding named
-copy-text-requires c κs = (search needs, room-next (rw (c .before .before .before .before .before .text-size .ensures) at (c .before .before .before .put-number2 .ensures)) (c .before .before .before .before .before .before .before .before .before .before .before .pre .1))
+copy-text-requires c κs = (search needs, room-next (rw (c .before .before .before .before .part2 .ensures) at (c .before .before .before .put-bytes2 .ensures)) (room (c .before .before .before .before .before .before .before .before)))
 
 same-length-2 : tie.Need-same-length-2
 same-length-2 c = search needs
 
 returns-2 : tie.Need-returns-2
 unfolding named
-returns-2 c = put-then (rw (c .before .before .before .before .before .before .before .before .text-size .ensures) at (c .before .before .before .before .before .before .put-number2 .ensures)) (c .before .before .copy-text .ensures)
+returns-2 c = put-then (rw (counted (c .before .before .before .before .before .before .before .before .before .before .before .before .before)) at (c .before .before .before .before .before .before .before .before .before .before .before .put-number2 .ensures)) (rw (runs (c .before .before .before .before .before .before .before .before .before .before .before .before .before .before .before .before)) (put-then (rw (c .before .before .before .before .before .before .before .part2 .ensures) at (c .before .before .before .before .before .before .put-bytes2 .ensures)) (c .before .before .copy-text .ensures)))
 
 pub put-text-spec : {M : Type 1} → statement M
 put-text-spec =
@@ -84,7 +110,11 @@ put-text-spec =
     same-length
     returns
     text-size-requires
+    sub-put-number-2
+    add-put-number
     put-number-requires-2
+    part-requires-2
+    put-bytes-requires-2
     copy-text-requires
     same-length-2
     returns-2)

@@ -1,0 +1,102 @@
+-- `text::escaped_end` meets its contract. The invariant: at i stands a backslash, and the text from i on ends where the text from the start does.
+-- Assumes nothing.
+use mathlib.Core.Path.{_≡_, refl, _∙_, sym, ap}
+use Prim.Native.Nat.{_-_, _+_, _<_}
+use native.Mathlib.Omega.{arith}
+use lib.ListN.{length}
+use Rattle.scan.specs.Scan.{byteAt}
+use Rattle.scan.specs.RunLaws.{runAt-le, byte-inside}
+use Rattle.lists.specs.Text.{escapeOf, own, textEndAt}
+use Rattle.lists.specs.declared.text.Escape.{Escape}
+use Rattle.lists.specs.TextLaws.{end-run, end-told, end-escape, end-bad, escape-inside}
+use borrow.Author.Needs.{needs}
+use Rattle.lists.proofs.text.escaped_end.Statement.{statement}
+use Rattle.lists.proofs.text.escaped_end.Tie as tie
+
+abbrev Inv-loop : tie.InvT-loop
+Inv-loop s at quoted classes i₀ i = (byteAt s i ≡ 0x5C) × (textEndAt quoted s at ≡ textEndAt quoted s i)
+
+abbrev μ-loop : tie.MeasureT-loop
+μ-loop s at quoted classes i₀ i = length s - i
+
+loop-holds : tie.Need-loop-holds Inv-loop μ-loop
+loop-holds c = (c .before .pre .1, refl)
+
+add-byte-at : tie.Need-add-byte-at Inv-loop μ-loop
+add-byte-at c = omega (arith, byte-inside (c .before .before .args .s .now) (c .loop .i) 0x5C (c .loop .inv .0) (omega arith))
+
+byte-at-requires : tie.Need-byte-at-requires Inv-loop μ-loop
+byte-at-requires c κs = search needs
+
+escape-of-requires : tie.Need-escape-of-requires Inv-loop μ-loop
+escape-of-requires c κs = search needs
+
+enum-told : tie.Need-enum-told Inv-loop μ-loop
+enum-told c = search needs
+
+enum-told-2 : tie.Need-enum-told-2 Inv-loop μ-loop
+enum-told-2 c = search needs
+
+returns : tie.Need-returns Inv-loop μ-loop
+returns c =
+    let e = sym (c .before .before .escape-of .ensures ∙ ap (escapeOf (c .before .before .before .before .before .before .args .quoted)) (c .before .before .before .byte-at .ensures)) ∙ c .enum-told2 .given .1 in
+    sym (c .before .before .before .before .loop .inv .1 ∙ end-bad (c .before .before .before .before .before .before .args .quoted) (c .before .before .before .before .before .before .args .s .now) (c .before .before .before .before .loop .i) (c .before .before .before .before .loop .inv .0) e)
+
+-- at an escape: what it stands for, and that it stands within the text
+taken : (c : tie.After-enum-told Inv-loop μ-loop) → escapeOf (c .before .before .before .before .before .before .args .quoted) (byteAt (c .before .before .before .before .before .before .args .s .now) (c .before .before .before .before .loop .i + 1)) ≡ Escape.Byte (c .enum-told .given .0 .0)
+taken c = sym (c .before .before .escape-of .ensures ∙ ap (escapeOf _) (c .before .before .before .byte-at .ensures)) ∙ c .enum-told .given .1
+
+next : (c : tie.After-enum-told Inv-loop μ-loop) → c .before .before .before .before .loop .i + 1 < length (c .before .before .before .before .before .before .args .s .now)
+next c = escape-inside _ (c .before .before .before .before .before .before .args .s .now) _ _ (taken c)
+
+add-past-escapes : tie.Need-add-past-escapes Inv-loop μ-loop
+add-past-escapes c = omega (arith, next c)
+
+past-escapes-requires : tie.Need-past-escapes-requires Inv-loop μ-loop
+past-escapes-requires c κs = search needs
+
+own-end-requires : tie.Need-own-end-requires Inv-loop μ-loop
+own-end-requires c κs = search needs
+
+byte-at-requires-2 : tie.Need-byte-at-requires-2 Inv-loop μ-loop
+byte-at-requires-2 c κs = search needs
+
+stop-at-requires : tie.Need-stop-at-requires Inv-loop μ-loop
+stop-at-requires c κs = search needs
+
+-- behind the escapes the text ends where it did
+passed : (c : tie.After-past-escapes Inv-loop μ-loop) → let t = textEndAt (c .before .before .before .before .before .before .before .args .quoted) (c .before .before .before .before .before .before .before .args .s .now) in t (c .before .before .before .before .before .before .before .args .at) ≡ t (c .past-escapes .result .at)
+passed c = c .before .before .before .before .before .loop .inv .1 ∙ end-escape _ _ _ (c .before .before .before .before .before .loop .inv .0) _ (taken (c .before)) ∙ c .past-escapes .ensures .0 .ends
+
+returns-2 : tie.Need-returns-2 Inv-loop μ-loop
+returns-2 c = c .stop-at .ensures ∙ end-told _ _ _ _ _ (c .before .before .before .own-end .ensures) (c .before .before .byte-at2 .ensures) (c .before .if1 .taken) ∙ sym (passed (c .before .before .before .before))
+
+loop-less : tie.Need-loop-less Inv-loop μ-loop
+loop-less c =
+    let e = c .before .before .before .past-escapes in
+    omega (arith, next (c .before .before .before .before), e .ensures .0 .later, c .before .before .own-end .ensures, runAt-le (own (c .before .before .before .before .before .before .before .before .before .before .args .quoted)) (c .before .before .before .before .before .before .before .before .before .before .args .s .now) (e .result .at))
+
+loop-again : tie.Need-loop-again Inv-loop μ-loop
+loop-again c = (sym (c .before .byte-at2 .ensures) ∙ c .if1 .left, passed (c .before .before .before) ∙ end-run _ _ _ ∙ ap (textEndAt _ _) (sym (c .before .before .own-end .ensures)))
+
+pub escaped-end-spec : {M : Type 1} → statement M
+escaped-end-spec =
+    tie.close
+    (tie.spec
+    Inv-loop
+    μ-loop
+    loop-holds
+    add-byte-at
+    byte-at-requires
+    escape-of-requires
+    enum-told
+    enum-told-2
+    returns
+    add-past-escapes
+    past-escapes-requires
+    own-end-requires
+    byte-at-requires-2
+    stop-at-requires
+    returns-2
+    loop-less
+    loop-again)
