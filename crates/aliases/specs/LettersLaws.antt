@@ -3,14 +3,13 @@
 use mathlib.Core.Path.{_≡_, refl, sym, _∙_, ap}
 use mathlib.Core.Bool.{Bool, true, false, cond}
 use mathlib.Core.List.{List, [], _∷_, _++_}
-use Prim.Native.Nat.{ℕ, zero, suc, _+_, _-_, _<_, _≤_}
+use Prim.Native.Nat.{ℕ, _+_, _-_, _<_, _≤_}
 use native.Mathlib.Omega.{arith}
-use lib.ListN.{length, take, drop, drop-of-length-le, take-append-drop, length-append}
+use lib.ListN.{length, drop, drop-of-length-le, take-append-drop}
 use lib.Seq.{drop-drop}
-use lib.Dec.{leb}
 use borrow.Author.Tests.{lt-leb}
 use Rattle.scan.specs.Bytes.{isLetter, isWord}
-use Rattle.scan.specs.Scan.{byteAt, partOf, runFrom, runAt}
+use Rattle.scan.specs.Scan.{byteAt, partOf, runFrom}
 use Rattle.scan.specs.RunLaws.{drop-step, run-yes}
 use Rattle.aliases.specs.Letters.{letterOf, lettersOf}
 

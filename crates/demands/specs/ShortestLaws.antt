@@ -2,15 +2,15 @@
 -- names no prefix. Document 01, "For demand 3": "a word names a prefix if lookup in that session leads it to one".
 -- Assumes nothing.
 use mathlib.Core.Path.{_≡_, refl, sym, _∙_, ap, subst}
-use mathlib.Core.Bool.{Bool, true, false, _&&_, false≢true}
+use mathlib.Core.Bool.{Bool, true, false, false≢true}
 use mathlib.Core.List.{List, [], _∷_, _++_}
 use mathlib.Core.Logic.{_⊎_, inl, inr}
 use mathlib.Core.Option.{Option, none, some}
 use Prim.Native.Nat.{ℕ, _≤_, min}
 use native.Mathlib.Omega.{arith}
-use lib.Dec.{eqb, leb}
+use lib.Dec.{leb}
 use lib.ListN.{length}
-use borrow.Author.Tests.{eqb-true, leb-true, leb-false}
+use borrow.Author.Tests.{leb-true, leb-false}
 use Rattle.scan.specs.Bytes.{isWord}
 use Rattle.scan.specs.Scan.{runAt, runFrom}
 use Rattle.aliases.specs.Good.{isAlias}

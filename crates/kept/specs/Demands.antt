@@ -1,20 +1,15 @@
 -- Demand 3 for sessions. Document 01, "For demand 3": its claims (Statement.antt of demands) hold of the words of every well-formed session,
 -- and so of every session that a call takes, since its aliases are 1 to 24 word characters.
 -- Assumes nothing.
-use mathlib.Core.Path.{_≡_, refl}
-use mathlib.Core.Bool.{Bool, true, false, _&&_}
+use mathlib.Core.Path.{_≡_}
+use mathlib.Core.Bool.{true}
 use mathlib.Core.List.{List, [], _∷_}
-use Prim.Native.Nat.{ℕ, _+_, _≤_}
-use native.Mathlib.Omega.{arith}
-use lib.Dec.{eqb, leb}
+use Prim.Native.Nat.{ℕ, _≤_}
+use lib.Dec.{leb}
 use lib.ListN.{length}
-use borrow.Author.Tests.{eqb-true}
-use Rattle.scan.specs.Bytes.{isWord}
-use Rattle.scan.specs.Scan.{runFrom, runAt}
-use Rattle.scan.specs.RunLaws.{run-yes, run-no}
 use Rattle.words.specs.Words.{Row}
-use Rattle.aliases.specs.Good.{isAlias, goodRow, goodRows, goodTable}
-use Rattle.aliases.specs.TableLaws.{both, row-told, alias-length}
+use Rattle.aliases.specs.Good.{goodRow, goodRows, goodTable}
+use Rattle.aliases.specs.TableLaws.{both, row-told}
 use Rattle.context.specs.Context.{fresh}
 use Rattle.demands.specs.Statement.{typed, AboutLists, AboutReadings}
 use Rattle.demands.specs.Shortest.{shortest, limit, Aliases}

@@ -16,7 +16,7 @@ use Rattle.aliases.specs.OrderLaws.{order-flip, order-back, order-eq, order-ref
 use Rattle.aliases.specs.Good.{goodRow, goodRows, goodTable}
 use Rattle.aliases.specs.TableLaws.{both, same-eq, same-refl, known-after}
 use Rattle.aliases.specs.declared.order.Order.{Order}
-use Rattle.session.specs.Layout.{Session, WellFormed, tableOf}
+use Rattle.session.specs.Layout.{Session, WellFormed}
 
 -- a word before the first row is in no row
 not-later : (w before : List ℕ) (t : Row) (ts : List Row) (n : ℕ) → goodRows before (t ∷ ts) ≡ true → orderOf w (t .word) ≡ Order.Less → lookupIn (t ∷ ts) w ≡ Named.Command n → ⊥

@@ -6,13 +6,13 @@ use mathlib.Core.List.{List, _∷_}
 use Prim.Native.Nat.{ℕ, _+_, _<_}
 use native.Mathlib.Omega.{arith}
 use native.Mathlib.Decide.{decLt}
-use lib.Dec.{eqb, leb}
-use lib.ListN.{length, getD, drop, List·getD-eq-default}
+use lib.Dec.{eqb}
+use lib.ListN.{length, drop, List·getD-eq-default}
 use borrow.Author.Tests.{eq-eqb, ne-eqb, lt-leb}
 use Rattle.scan.specs.Bytes.{isWord, isDigit}
 use Rattle.scan.specs.Scan.{runAt, byteAt, digitsFrom, digitsAt}
 use Rattle.scan.specs.RunLaws.{drop-step, runAt-off}
-use Rattle.scan.specs.DigitsLaws.{Digital, digital}
+use Rattle.scan.specs.DigitsLaws.{digital}
 use Rattle.scan.specs.declared.decimal.Decimal.{Decimal}
 use Rattle.ranges.specs.Range.{isSign, signAtom, numberOr, atomAt, offsetsFrom, offsetsAt, withOffsets, afterAtom, endingAt, afterFirst, rangeAt}
 use Rattle.ranges.specs.declared.range.OffsetsRead.{OffsetsRead}

@@ -17,7 +17,7 @@ use Rattle.reading.specs.Alone.{atFront, refusalNo}
 use Rattle.reading.specs.Checks.{checkOf, check-good, check-bad}
 use Rattle.reading.specs.declared.alone.Checked.{Checked}
 use Rattle.reading.specs.declared.alone.Refusal.{Refusal}
-use Rattle.commands.specs.Run.{outNo, outBytes, Answer, lineFrom}
+use Rattle.commands.specs.Run.{outNo, outBytes, lineFrom}
 use Rattle.commands.specs.Line.{turned, line, storeAfter}
 use Rattle.run.specs.Reply.{reply}
 use Rattle.session.specs.Layout.{tableOf, sessionOf, remembering, sound}

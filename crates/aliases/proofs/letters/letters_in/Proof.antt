@@ -1,6 +1,6 @@
 -- `letters::letters_in` meets its contract. The invariant: c letters, and those from `at + i` on, are all.
 -- Assumes nothing.
-use mathlib.Core.Path.{_≡_, refl, sym, _∙_, ap}
+use mathlib.Core.Path.{_≡_, ap}
 use native.Mathlib.Omega.{arith}
 use Prim.Native.Nat.{ℕ, _+_, _-_, _≤_}
 use lib.ListN.{drop, getD}

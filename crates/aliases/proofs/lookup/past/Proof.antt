@@ -1,9 +1,9 @@
 -- `lookup::past` meets its contract. The invariant is the contract, at i.
 -- Assumes nothing.
-use mathlib.Core.Path.{_≡_, _∙_, ap}
+use mathlib.Core.Path.{_≡_, _∙_}
 use mathlib.Core.List.{List}
 use native.Mathlib.Omega.{arith}
-use Prim.Native.Nat.{ℕ, _+_, _-_, _<_, _≤_}
+use Prim.Native.Nat.{ℕ, _-_, _<_, _≤_}
 use lib.ListN.{length}
 use borrow.Author.Tests.{eqb-true}
 use Rattle.scan.specs.Scan.{byteAt}

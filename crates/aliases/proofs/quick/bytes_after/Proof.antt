@@ -1,6 +1,5 @@
 -- `quick::bytes_after` meets its contract. The invariant: the first k bytes are alike.
 -- Assumes nothing.
-use mathlib.Core.Path.{_≡_, refl, sym, _∙_, ap}
 use native.Mathlib.Omega.{arith}
 use mathlib.Core.Bool.{false≢true}
 use Prim.Native.Nat.{_-_, _≤_}

@@ -9,7 +9,7 @@ use lib.Dec.{eqb}
 use lib.ListN.{length, getD}
 use borrow.Author.Tests.{not-false}
 use Rattle.scan.specs.Bytes.{isDigit}
-use Rattle.scan.specs.DigitsLaws.{Digital, digital}
+use Rattle.scan.specs.DigitsLaws.{digital}
 use Rattle.ranges.specs.Range.{isSign}
 use Rattle.ranges.specs.OffsetLaws.{sign-inside, pair-digit}
 use Rattle.ranges.specs.declared.range.MoveDir1D.{MoveDir1D}

@@ -1,7 +1,6 @@
 -- `ascii::any_high_of_four` meets its contract.
 -- Assumes nothing.
 use mathlib.Core.Path.{_∙_, sym}
-use Prim.Native.Nat.{_-_}
 use Rattle.utf8.specs.Ascii.{four-join}
 use Rattle.utf8.specs.Utf8.{isAscii}
 use Rattle.blocks.specs.BlockLaws.{neither}

@@ -1,7 +1,7 @@
 -- `ascii::any_high_of_many` meets its contract. The invariant: while every block passed, the run from the start on goes on at i.
 -- Assumes nothing.
 use mathlib.Core.Path.{_≡_, _∙_, refl, sym}
-use mathlib.Core.Bool.{false, false≢true}
+use mathlib.Core.Bool.{false≢true}
 use Prim.Native.Nat.{_-_, _≤_}
 use native.Mathlib.Omega.{arith}
 use Rattle.scan.specs.Scan.{runAt}

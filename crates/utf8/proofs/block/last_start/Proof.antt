@@ -1,7 +1,5 @@
 -- `block::last_start` meets its contract.
 -- Assumes nothing.
-use native.Mathlib.Omega.{arith}
-use borrow.Author.Tests.{leb-true, leb-false}
 use Rattle.utf8.specs.Utf8Blocks.{last-one, last-two, last-none}
 use borrow.Author.Needs.{needs}
 use Rattle.utf8.proofs.block.last_start.Statement.{statement}
