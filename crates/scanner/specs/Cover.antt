@@ -1,10 +1,11 @@
--- What is said of a line's tokens: that they cover the line, the bytes that they name, and those of one kind.
+-- What is said of a line's tokens: that they cover the line, the bytes that they name, those of one kind, and what is left over.
 -- Assumes nothing.
 use mathlib.Core.Path.{_≡_}
-use Prim.Native.Nat.{ℕ, _<_}
+use Prim.Native.Nat.{ℕ, _<_, _≤_}
 use mathlib.Core.Bool.{true, false, cond}
 use mathlib.Core.List.{List, [], _∷_, _++_}
 use lib.Dec.{eqb, ltb}
+use lib.ListN.{length}
 use Rattle.scan.specs.Scan.{partOf}
 use Rattle.scanner.specs.Tokens.{token}
 use Rattle.scanner.specs.declared.token.TokenKind.{TokenKind}
@@ -41,3 +42,15 @@ ofKind k (t ∷ ts) = elim (eqb (kindNo (t .kind)) (kindNo k)) [ true ↦ t ∷ 
 -- one token, or none where it would have no byte
 unfoldable pub some : TokenKind → ℕ → ℕ → List Token
 some k i j = cond (ltb i j) (token k i j ∷ []) []
+
+-- the last token is left over, and goes up to the end of s
+pub record LeftOver (s : List ℕ) (ts : List Token) : Type 0 where
+  pub before : List Token
+  pub from : ℕ
+  pub inside : from < length s
+  pub is : ts ≡ before ++ token TokenKind.Left from (length s) ∷ []
+
+-- each token stands from a up to e
+abbrev pub Within : ℕ → ℕ → List Token → Type 0
+Within a e [] = Unit {0}
+Within a e (t ∷ ts) = (a ≤ t .start) × (t .stop ≤ e) × Within a e ts

@@ -2,12 +2,12 @@
 -- Assumes nothing.
 use mathlib.Core.Path.{_≡_, refl, _∙_, ap}
 use mathlib.Core.Bool.{Bool, true, false, cond}
-use mathlib.Core.List.{List, [], _∷_}
+use mathlib.Core.List.{List, [], _∷_, _++_}
 use Prim.Native.Nat.{ℕ, _<_, _≤_}
 use native.Mathlib.Omega.{arith}
 use lib.Dec.{ltb}
-use lib.ListN.{length}
-use borrow.Author.Tests.{ltb-true, ltb-false}
+use lib.ListN.{length, take}
+use borrow.Author.Tests.{ltb-true, ltb-false, le-ltb}
 use Rattle.scan.specs.Bytes.{isSpace, isColon}
 use Rattle.scan.specs.Scan.{runAt}
 use Rattle.scan.specs.RunLaws.{runAt-le, runAt-within}
@@ -19,6 +19,7 @@ use Rattle.reading.specs.LineLaws.{skip-in, WordIn, wordAt-in, AtWord, Parsed}
 use Rattle.reading.specs.declared.line.WordRead.{WordRead}
 use Rattle.reading.specs.declared.line.CommandDescription.{CommandDescription}
 use Rattle.scanner.specs.Tokens.{token, leadLeft, leadWord, leadRange, leadOf, Piece, pieces, upTo, pieceAt}
+use Rattle.scanner.specs.declared.token.TokenKind.{TokenKind}
 use Rattle.scanner.specs.declared.token.Token.{Token}
 use Rattle.scanner.specs.declared.token.Lead.{Lead}
 
@@ -50,6 +51,23 @@ piece-good j e i (p ∷ ps) h k l = go (ltb i (p .stop)) refl (λ m. piece-good 
     go : (b : Bool) → ltb i (p .stop) ≡ b → (p .stop ≤ i → Good i e (pieceAt ps i)) → Good i e (cond b (token (p .kind) i (p .stop)) (pieceAt ps i))
     go true q r = record { starts = refl; past = ltb-true i (p .stop) q; inside = upto-le (p .stop) e ps (h .1) }
     go false q r = r (ltb-false i (p .stop) q)
+
+-- pieces ps up to e, and others behind them: what starts before e stops there or before; from e on only the others count
+pub piece-before : (j e i : ℕ) (ps qs : List Piece) → Upto j e ps → j ≤ i → i < e → pieceAt (ps ++ qs) i .stop ≤ e
+unfolding pieceAt upTo
+piece-before j e i [] qs u k l = absurd (omega arith)
+piece-before j e i (p ∷ ps) qs u k l = go (ltb i (p .stop)) refl (λ m. piece-before (p .stop) e i ps qs (u .1) m l)
+  where
+    go : (b : Bool) → ltb i (p .stop) ≡ b → (p .stop ≤ i → pieceAt (ps ++ qs) i .stop ≤ e) → cond b (token (p .kind) i (p .stop)) (pieceAt (ps ++ qs) i) .stop ≤ e
+    go true q r = upto-le (p .stop) e ps (u .1)
+    go false q r = r (ltb-false i (p .stop) q)
+
+pub piece-behind : (j e i : ℕ) (ps qs : List Piece) → Upto j e ps → e ≤ i → pieceAt (ps ++ qs) i ≡ pieceAt qs i
+unfolding pieceAt upTo
+piece-behind j e i [] qs u h = refl
+piece-behind j e i (p ∷ ps) qs u h =
+    let l = upto-le (p .stop) e ps (u .1) in
+    rw (le-ltb i (p .stop) (omega arith)) (piece-behind (p .stop) e i ps qs (u .1) h)
 
 -- the lead's pieces ------------------------------------------------------------------------------------------------------------------
 
@@ -120,6 +138,20 @@ unfolding pieces
 lead-upto s =
     let o = ordered s in
     (omega arith, (o .colons-from, (o .start-from, (o .range-from, (o .word-from, (o .newline-from, (o .bang-from, (o .blank-from, (o .argument-from, refl)))))))))
+
+-- all pieces but the last, which is what is left over
+abbrev pub readPieces : Lead → List Piece
+readPieces l = take 8 (pieces l)
+
+pub pieces-left : (l : Lead) → pieces l ≡ readPieces l ++ record { kind = TokenKind.Left; stop = l .argument } ∷ []
+unfolding pieces
+pieces-left l = refl
+
+pub read-upto : (s : List ℕ) → Upto 0 (leadOf s .blank) (readPieces (leadOf s))
+unfolding pieces
+read-upto s =
+    let o = ordered s in
+    (omega arith, (o .colons-from, (o .start-from, (o .range-from, (o .word-from, (o .newline-from, (o .bang-from, (o .blank-from, refl))))))))
 
 -- the lead of an accepted reading ----------------------------------------------------------------------------------------------------
 

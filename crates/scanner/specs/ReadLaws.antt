@@ -1,5 +1,5 @@
 -- The tokens of a line and its reading: the tokens of the lead, those of one kind, and what an accepted reading finds.
--- Look for `tokens-word`, `tokens-range`, `tokens-bang`, `argument-read`. Assumes nothing.
+-- Look for `tokens-word`, `tokens-range`, `tokens-bang`, `argument-read`, `left-behind`. Assumes nothing.
 use mathlib.Core.Path.{_≡_, refl, _∙_, ap}
 use mathlib.Core.Bool.{Bool, true, false, cond, not}
 use mathlib.Core.List.{List, [], _∷_, _++_, append-nil}
@@ -26,6 +26,14 @@ use Rattle.scanner.specs.declared.token.Token.{Token}
 use Rattle.scanner.specs.declared.token.Lead.{Lead}
 
 -- the tokens of the lead, and those behind it ------------------------------------------------------------------------------------------
+
+pub token-lead : (s : List ℕ) (i : ℕ) → i < leadOf s .argument → tokenAt s i ≡ pieceAt (pieces (leadOf s)) i
+unfolding tokenAt
+token-lead s i h = rw (lt-ltb i (leadOf s .argument) h)
+
+pub token-behind : (s : List ℕ) (i : ℕ) → leadOf s .argument ≤ i → tokenAt s i ≡ argumentToken s i
+unfolding tokenAt
+token-behind s i h = rw (le-ltb i (leadOf s .argument) h)
 
 -- the pieces that have bytes
 unfoldable tokensIn : ℕ → List Piece → List Token
@@ -55,10 +63,8 @@ module _ (s : List ℕ) where
           ap (tokensAt s) a ∙ r ∙ rw q
 
   lead-tokens : tokensOf s ≡ tokensIn 0 (pieces (leadOf s)) ++ tokensAt s (leadOf s .argument)
-  unfolding tokensOf tokenAt
-  lead-tokens =
-      pieces-on 0 (leadOf s .argument) (pieces (leadOf s)) (lead-upto s) (lead-inside s) (omega arith)
-      (λ i a b. rw (lt-ltb i (leadOf s .argument) b))
+  unfolding tokensOf
+  lead-tokens = pieces-on 0 (leadOf s .argument) (pieces (leadOf s)) (lead-upto s) (lead-inside s) (omega arith) (λ i a b. token-lead s i b)
 
 -- the tokens of one kind ---------------------------------------------------------------------------------------------------------------
 
@@ -113,10 +119,6 @@ argument-kind s i = go (leb (length s) i) (isSpace (byteAt s i)) (eqb (byteAt s 
     go false false true false t = omega arith
     go false false false d t = item t
 
-token-behind : (s : List ℕ) (i : ℕ) → leadOf s .argument ≤ i → tokenAt s i ≡ argumentToken s i
-unfolding tokenAt
-token-behind s i h = rw (le-ltb i (leadOf s .argument) h)
-
 module _ (s : List ℕ) (k : TokenKind) (of-lead : kindNo k < 4) where
   -- behind the lead there is none of such a kind
   none-from : (n i : ℕ) → leadOf s .argument ≤ i → ofKind k (tokensFrom n s i) ≡ []
@@ -149,6 +151,10 @@ one-bang s k = go (eqb (byteAt s k) 0x21)
     go : (b : Bool) → length {A = Token} (cond (ltb k (cond b (k + 1) k)) (token TokenKind.Bang k (cond b (k + 1) k) ∷ []) []) ≡ cond (not (eqb (cond b (k + 1) k) k)) 1 0
     go true = rw (lt-ltb k (k + 1) (omega arith), ne-eqb (k + 1) k (λ e. omega arith))
     go false = rw (le-ltb k k (omega arith), eq-eqb k k refl)
+
+some-none : (k : TokenKind) (i : ℕ) → some k i i ≡ []
+unfolding some
+some-none k i = rw (le-ltb i i (omega arith))
 
 module _ (s : List ℕ) (d : CommandDescription) (h : readingOf s ≡ CommandRead.Command d) where
   read : Parsed s d
@@ -188,3 +194,19 @@ module _ (s : List ℕ) (d : CommandDescription) (h : readingOf s ≡ CommandRea
   pub argument-read : leadOf s .argument ≡ d .argument
   unfolding leadWord
   argument-read = ap (λ (l : Lead). l .argument) (lead-parsed s d read) ∙ read .argued
+
+  -- nothing of the lead is left over
+  lead-whole : ofKind TokenKind.Left (tokensIn 0 (pieces (leadOf s))) ≡ []
+  unfolding pieces piecesOf kindNo leadWord
+  lead-whole =
+      pieces-kind TokenKind.Left 0 (pieces (leadOf s))
+      ∙ append-nil (some TokenKind.Left (leadOf s .blank) (leadOf s .argument))
+      ∙ ap (λ (l : Lead). some TokenKind.Left (l .blank) (l .argument)) (lead-parsed s d read)
+      ∙ some-none TokenKind.Left (runAt isSpace s (skipByte s (read .next) 0x21))
+
+  pub left-behind : ofKind TokenKind.Left (tokensOf s) ≡ ofKind TokenKind.Left (tokensAt s (d .argument))
+  left-behind =
+      ap (ofKind TokenKind.Left) (lead-tokens s)
+      ∙ kind-append TokenKind.Left (tokensIn 0 (pieces (leadOf s))) (tokensAt s (leadOf s .argument))
+      ∙ ap (λ (ts : List Token). ts ++ ofKind TokenKind.Left (tokensAt s (leadOf s .argument))) lead-whole
+      ∙ ap (λ (n : ℕ). ofKind TokenKind.Left (tokensAt s n)) argument-read
