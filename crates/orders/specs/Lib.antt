@@ -1,0 +1,4 @@
+pub mod Order
+pub mod OrderLaws
+pub mod Picking
+pub mod PickingLaws
