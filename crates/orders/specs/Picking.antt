@@ -1,8 +1,7 @@
 -- How the code finds an order: thing after thing, each by how many of those that are not taken stand before it. What is so picked is
 -- `orderOf`: `picked-order` in PickingLaws.
 -- Assumes nothing.
-use mathlib.Core.Bool.{Bool, true, false, not, cond}
-use mathlib.Core.List.{List}
+use mathlib.Core.Bool.{Bool, true, false, not}
 use Prim.Native.Nat.{ℕ, zero, suc, _+_, _-_, _/_, _%_, _^_, min}
 use lib.Bits.{bitAnd, bitOr}
 use lib.Dec.{eqb}

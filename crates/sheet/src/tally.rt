@@ -4,7 +4,9 @@ use scan::part::byte_at;
 use wording::put::put_byte;
 use wording::put::put_decimal;
 use wording::put::put_text;
+ghost use mathlib.Core.Path.{_≡_};
 ghost use Rattle.wording.specs.Behind.{Behind};
+ghost use Rattle.sheet.specs.Tally.{noLines, oneMore, withAccepted, withLine, withRefused};
 
 // Lines, those with an action, those that give nothing, those refused, and the refused ones by number.
 pub struct Tally {
@@ -15,7 +17,9 @@ pub struct Tally {
     pub by: [u64; 14],
 }
 
-pub fn none() -> Tally {
+pub fn none() -> Tally
+    ensures { λ r. ⌜ r ≡ noLines ⌝ }
+{
     Tally {
         lines: 0,
         actions: 0,
@@ -25,12 +29,16 @@ pub fn none() -> Tally {
     }
 }
 
-fn one_more(n: u64) -> u64 {
+fn one_more(n: u64) -> u64
+    ensures { λ r. ⌜ r ≡ oneMore n ⌝ }
+{
     std::num::wrapping_add_u64(n, 1)
 }
 
 // A line that is accepted: the kind of its record is 0 for nothing.
-fn accepted(t: Tally, kind: u8) -> Tally {
+fn accepted(t: Tally, kind: u8) -> Tally
+    ensures { λ r. ⌜ r ≡ withAccepted t kind ⌝ }
+{
     let by = t.by;
     if kind == 0 {
         return Tally {
@@ -50,7 +58,9 @@ fn accepted(t: Tally, kind: u8) -> Tally {
     }
 }
 
-fn refused(t: Tally, refusal: u64) -> Tally {
+fn refused(t: Tally, refusal: u64) -> Tally
+    ensures { λ r. ⌜ r ≡ withRefused t refusal ⌝ }
+{
     let mut by = t.by;
     if refusal < 14 {
         let i = refusal as usize;
@@ -66,7 +76,9 @@ fn refused(t: Tally, refusal: u64) -> Tally {
 }
 
 // One line more.
-pub fn tallied(t: Tally, r: LineReply, written: &[u8]) -> Tally {
+pub fn tallied(t: Tally, r: LineReply, written: &[u8]) -> Tally
+    ensures { λ s. ⌜ s ≡ withLine t r (now (written .entry)) ⌝ }
+{
     if r.refusal == 0 {
         return accepted(t, byte_at(written, 0));
     }

@@ -1,0 +1,13 @@
+-- `sheet::tally::none` meets its contract.
+-- Assumes nothing.
+use mathlib.Core.Path.{refl}
+use Rattle.sheet.specs.Tally.{noLines}
+use Rattle.sheet.proofs.tally.none.Statement.{statement}
+use Rattle.sheet.proofs.tally.none.Tie as tie
+
+returns : tie.Need-returns
+unfolding noLines
+returns c = refl
+
+pub none-spec : {M : Type 1} → statement M
+none-spec = tie.close (tie.spec returns)
