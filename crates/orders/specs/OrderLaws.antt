@@ -31,7 +31,12 @@ abbrev pub inPlace : ℕ → ℕ → Bool
 inPlace count zero = same (orderOf count 0) (numbersFrom 0 count)
 inPlace count (suc n) = isLess (compared (orderOf count n) (orderOf count (suc n)))
 
+-- there are as many orders of `count` things as can be, and each is right and in its place
+abbrev pub allRight : ℕ → Bool
+allRight count =
+    eqb (ordersOf count) (factorial count) && below (ordersOf count) (λ (n : ℕ). eachOnce count (orderOf count n) && inPlace count n)
+
 -- of 0 to 5 things
-pub orders-right : below 6 (λ (count : ℕ). eqb (ordersOf count) (factorial count) && below (ordersOf count) (λ (n : ℕ). eachOnce count (orderOf count n) && inPlace count n)) ≡ true
+pub orders-right : below 6 allRight ≡ true
 unfolding numbersFrom without ordersFrom orderOf factorial ordersOf flatMap same compared isLess
 orders-right = refl
