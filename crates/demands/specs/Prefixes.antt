@@ -16,6 +16,7 @@ use Rattle.scan.specs.Scan.{runAt, partOf}
 use Rattle.utf8.specs.Utf8.{isUtf8}
 use Rattle.utf8.specs.Utf8Laws.{utf8-behind}
 use Rattle.scan.specs.RunLaws.{runAt-inside}
+use Rattle.ranges.specs.Stable.{stops-space}
 use Rattle.reading.specs.Alone.{checked}
 use Rattle.reading.specs.Behind.{NoNewline, noNewline-append, noNewline-drop, behind, reading-behind}
 use Rattle.reading.specs.Line.{readingOf, startOf}
@@ -76,7 +77,7 @@ trim-append : (p t : List ℕ) → 0 < length (trim p) → trim (p ++ 32 ∷ t) 
 unfolding trim
 trim-append p t h =
     let n = length-drop (runAt isSpace p 0) p in
-    ap (λ (k : ℕ). drop k (p ++ 32 ∷ t)) (runAt-inside p t isSpace 0 (omega arith) (omega arith))
+    ap (λ (k : ℕ). drop k (p ++ 32 ∷ t)) (runAt-inside isSpace p (32 ∷ t) 0 (omega arith) (omega arith))
     ∙ drop-append-le (runAt isSpace p 0) p (32 ∷ t) (omega arith)
 
 trim-newline : (l : List ℕ) → NoNewline l → NoNewline (trim l)
@@ -115,7 +116,7 @@ module _ (table : List Row) (p t : List ℕ) (d : CommandDescription) (h : Parse
   by-role : (n : ℕ) (r : Role) → IsPrefix r → Accepted (step table (runOn table) fresh p (byRole p d n r) .out) →
       Leads (byRole (p ++ 32 ∷ t) (behind p t d) n r) (behind p t d) (setsBy p (d .range) r)
   unfolding byRole setsBy change
-  by-role n Role.Tab i k = rw (focus-stop p t (startOf p) (d .range) (places p d h .its-range)) (by-focus (focusOf p (d .range)) k)
+  by-role n Role.Tab i k = rw (focus-stop 32 stops-space p t (startOf p) (d .range) (places p d h .its-range)) (by-focus (focusOf p (d .range)) k)
   by-role n (Role.Axis a) i k = record { its-change = Change.Axis a; again = refl; changes = λ x. refl }
   by-role n (Role.Side a) i k = record { its-change = Change.Side a; again = refl; changes = λ x. refl }
   by-role n Role.Action i k = absurd i
