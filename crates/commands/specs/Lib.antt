@@ -5,3 +5,5 @@ pub mod Line
 pub mod Samples
 pub mod RunLaws
 pub mod TurnLaws
+pub mod Shift
+pub mod TrimLaws

@@ -4,5 +4,7 @@ pub mod WordPlacesLaws
 pub mod Alone
 pub mod LineLaws
 pub mod Behind
+pub mod Shift
+pub mod ShiftLaws
 pub mod Checks
 pub mod Samples
