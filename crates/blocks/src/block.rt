@@ -9,17 +9,18 @@ use scan::classes::Kind;
 ghost use mathlib.Core.Path.{_≡_};
 ghost use mathlib.Core.Bool.{false};
 ghost use Prim.Native.Nat.{_+_, _≤_};
+ghost use lib.Dec.{ltb};
 ghost use lib.ListN.{length};
-ghost use Rattle.scan.specs.Bytes.{isKind, isSpace, isWord, isPlain, isQuoted};
+ghost use Rattle.scan.specs.Bytes.{isKind, isSpace, isLetter, isPlain, isQuoted};
 ghost use Rattle.scan.specs.Scan.{runAt};
 
 // How many bytes a block has.
 const BLOCK: usize = 32;
 
-// False only where the block at `at` is of spaces.
+// Whether a byte of the block at `at` is no space: the spaces from `at` on end within the block.
 fn any_not_space(s: &[u8], at: usize) -> bool
     requires { ⌜ at + 32 ≤ length (now s) ⌝ }
-    ensures { λ r. ⌜ (r ≡ false → runAt isSpace (now (s .entry)) at ≡ runAt isSpace (now (s .entry)) (at + 32)) ⌝ }
+    ensures { λ r. ⌜ r ≡ ltb (runAt isSpace (now (s .entry)) at) (at + 32) ⌝ }
 {
     let mut m = false;
     let mut i: usize = 0;
@@ -30,10 +31,10 @@ fn any_not_space(s: &[u8], at: usize) -> bool
     m
 }
 
-// False only where the block at `at` is of letters; a word's other characters are read one by one.
+// Whether a byte of the block at `at` is no letter; a word's other characters are read one by one.
 fn any_not_letter(s: &[u8], at: usize) -> bool
     requires { ⌜ at + 32 ≤ length (now s) ⌝ }
-    ensures { λ r. ⌜ (r ≡ false → runAt isWord (now (s .entry)) at ≡ runAt isWord (now (s .entry)) (at + 32)) ⌝ }
+    ensures { λ r. ⌜ r ≡ ltb (runAt isLetter (now (s .entry)) at) (at + 32) ⌝ }
 {
     let mut m = false;
     let mut i: usize = 0;
@@ -44,11 +45,11 @@ fn any_not_letter(s: &[u8], at: usize) -> bool
     m
 }
 
-// False only where the block at `at` is of bytes that stand for themselves in plain text: by two tests, since one of six comparisons is not
-// compiled to vector instructions.
+// Whether a byte of the block at `at` does not stand for itself in plain text: by two tests, since one of six comparisons is not compiled to
+// vector instructions.
 fn any_not_plain(s: &[u8], at: usize) -> bool
     requires { ⌜ at + 32 ≤ length (now s) ⌝ }
-    ensures { λ r. ⌜ (r ≡ false → runAt isPlain (now (s .entry)) at ≡ runAt isPlain (now (s .entry)) (at + 32)) ⌝ }
+    ensures { λ r. ⌜ r ≡ ltb (runAt isPlain (now (s .entry)) at) (at + 32) ⌝ }
 {
     let mut blank = false;
     let mut sign = false;
@@ -62,10 +63,10 @@ fn any_not_plain(s: &[u8], at: usize) -> bool
     either(blank, sign)
 }
 
-// False only where the block at `at` is of bytes that stand for themselves in quoted text.
+// Whether a byte of the block at `at` does not stand for itself in quoted text.
 fn any_not_quoted(s: &[u8], at: usize) -> bool
     requires { ⌜ at + 32 ≤ length (now s) ⌝ }
-    ensures { λ r. ⌜ (r ≡ false → runAt isQuoted (now (s .entry)) at ≡ runAt isQuoted (now (s .entry)) (at + 32)) ⌝ }
+    ensures { λ r. ⌜ r ≡ ltb (runAt isQuoted (now (s .entry)) at) (at + 32) ⌝ }
 {
     let mut m = false;
     let mut i: usize = 0;
@@ -76,7 +77,8 @@ fn any_not_quoted(s: &[u8], at: usize) -> bool
     m
 }
 
-// False only where the block at `at` is of the kind; always true for kinds whose runs are short.
+// False only where the block at `at` is of the kind; true also for a word's block that is not all letters, and always for kinds whose runs
+// are short.
 fn any_foreign(s: &[u8], at: usize, k: Kind) -> bool
     requires { ⌜ at + 32 ≤ length (now s) ⌝ }
     ensures { λ r. ⌜ (r ≡ false → runAt (isKind k) (now (s .entry)) at ≡ runAt (isKind k) (now (s .entry)) (at + 32)) ⌝ }

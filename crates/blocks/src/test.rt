@@ -1,9 +1,9 @@
 // Tests of one byte, by comparisons, which vector instructions have.
 use scan::byte::within;
 ghost use mathlib.Core.Path.{_≡_};
-ghost use mathlib.Core.Bool.{true, false, _||_};
+ghost use mathlib.Core.Bool.{not, _||_};
 ghost use lib.Dec.{eqb};
-ghost use Rattle.scan.specs.Bytes.{isSpace, isWord, isQuoted};
+ghost use Rattle.scan.specs.Bytes.{isSpace, isLetter, isQuoted};
 
 pub fn either(a: bool, b: bool) -> bool
     ensures { λ r. ⌜ r ≡ (a || b) ⌝ }
@@ -11,16 +11,16 @@ pub fn either(a: bool, b: bool) -> bool
     if a { true } else { b }
 }
 
-// False only for a space.
+// Whether a byte is no space.
 pub fn not_space(b: u8) -> bool
-    ensures { λ r. ⌜ (r ≡ false → isSpace b ≡ true) ⌝ }
+    ensures { λ r. ⌜ r ≡ not (isSpace b) ⌝ }
 {
     !either(b == 0x20, b == 0x09)
 }
 
-// False only for a letter, which is a word's.
+// Whether a byte is no letter.
 pub fn not_letter(b: u8) -> bool
-    ensures { λ r. ⌜ (r ≡ false → isWord b ≡ true) ⌝ }
+    ensures { λ r. ⌜ r ≡ not (isLetter b) ⌝ }
 {
     !either(within(0x41, 0x5A, b), within(0x61, 0x7A, b))
 }
@@ -39,9 +39,9 @@ pub fn is_sign(b: u8) -> bool
     either(either(b == 0x7C, b == 0x22), b == 0x5C)
 }
 
-// False only for a byte that stands for itself in quoted text.
+// Whether a byte does not stand for itself in quoted text.
 pub fn not_quoted(b: u8) -> bool
-    ensures { λ r. ⌜ (r ≡ false → isQuoted b ≡ true) ⌝ }
+    ensures { λ r. ⌜ r ≡ not (isQuoted b) ⌝ }
 {
     either(either(either(b == 0x09, b == 0x0A), b == 0x5C), b == 0x22)
 }

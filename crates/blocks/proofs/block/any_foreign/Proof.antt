@@ -2,7 +2,8 @@
 -- Assumes nothing.
 use mathlib.Core.Path.{sym}
 use mathlib.Core.Bool.{false≢true}
-use Rattle.scan.specs.Bytes.{isKind}
+use Rattle.scan.specs.Bytes.{isKind, isSpace, isLetter, isWord, isPlain, isQuoted}
+use Rattle.blocks.specs.BlockLaws.{tested-through, tested-wider, letter-word}
 use borrow.Author.Needs.{needs}
 use Rattle.blocks.proofs.block.any_foreign.Statement.{statement}
 use Rattle.blocks.proofs.block.any_foreign.Tie as tie
@@ -45,19 +46,19 @@ enum-told-8 c = search needs
 
 returns : tie.Need-returns
 unfolding isKind
-returns c = λ h. rw (c .before .enum-told .given .1) (c .any-not-space .ensures h)
+returns c = λ h. rw (c .before .enum-told .given .1) (tested-through isSpace _ _ 32 _ (c .any-not-space .ensures) h)
 
 returns-2 : tie.Need-returns-2
 unfolding isKind
-returns-2 c = λ h. rw (c .before .enum-told2 .given .1) (c .any-not-letter .ensures h)
+returns-2 c = λ h. rw (c .before .enum-told2 .given .1) (tested-wider isLetter isWord _ _ 32 _ letter-word (c .any-not-letter .ensures) h)
 
 returns-3 : tie.Need-returns-3
 unfolding isKind
-returns-3 c = λ h. rw (c .before .enum-told3 .given .1) (c .any-not-plain .ensures h)
+returns-3 c = λ h. rw (c .before .enum-told3 .given .1) (tested-through isPlain _ _ 32 _ (c .any-not-plain .ensures) h)
 
 returns-4 : tie.Need-returns-4
 unfolding isKind
-returns-4 c = λ h. rw (c .before .enum-told4 .given .1) (c .any-not-quoted .ensures h)
+returns-4 c = λ h. rw (c .before .enum-told4 .given .1) (tested-through isQuoted _ _ 32 _ (c .any-not-quoted .ensures) h)
 
 returns-5 : tie.Need-returns-5
 returns-5 c = λ h. absurd (false≢true (sym h))

@@ -1,25 +1,21 @@
--- `block::any_not_letter` meets its contract. The invariant: while every byte passed, the run from `at` on goes on at `at + i`.
+-- `block::any_not_letter` meets its contract. The invariant: after i bytes m says whether the run from `at` on ends before the next.
 -- Assumes nothing.
-use mathlib.Core.Path.{_≡_, _∙_, sym, ap}
-use mathlib.Core.Bool.{false}
-use Prim.Native.Nat.{_+_, _-_, _≤_}
+use Prim.Native.Nat.{_-_}
 use native.Mathlib.Omega.{arith}
-use Rattle.scan.specs.Bytes.{isWord}
-use Rattle.scan.specs.Scan.{runAt}
-use Rattle.scan.specs.RunLaws.{runAt-on}
-use Rattle.blocks.specs.BlockLaws.{neither}
+use Rattle.scan.specs.Bytes.{isLetter}
+use Rattle.blocks.specs.BlockLaws.{Tested, tested-start, tested-turn, tested-end}
 use borrow.Author.Needs.{needs}
 use Rattle.blocks.proofs.block.any_not_letter.Statement.{statement}
 use Rattle.blocks.proofs.block.any_not_letter.Tie as tie
 
 abbrev Inv-loop : tie.InvT-loop
-Inv-loop s at m₀ i₀ m i = (i ≤ 32) × (m ≡ false → runAt isWord s at ≡ runAt isWord s (at + i))
+Inv-loop s at m₀ i₀ m i = Tested isLetter s at 32 m i
 
 abbrev μ-loop : tie.MeasureT-loop
 μ-loop s at m₀ i₀ m i = 32 - i
 
 loop-holds : tie.Need-loop-holds Inv-loop μ-loop
-loop-holds c = (omega arith, λ h. let e : c .before .args .at ≡ c .before .args .at + 0 = omega arith in ap (runAt isWord (c .before .args .s .now)) e)
+loop-holds c = let a = c .before .args in tested-start isLetter (a .s .now) (a .at) 32
 
 add-not-letter : tie.Need-add-not-letter Inv-loop μ-loop
 add-not-letter c = omega arith
@@ -41,23 +37,12 @@ loop-less c = search needs
 
 loop-again : tie.Need-loop-again Inv-loop μ-loop
 loop-again c =
-    let a = c .before .before .before .before .before .before .args in
-    let l = c .before .before .before .before .loop in
-    let n : a .at + l .i + 1 ≡ a .at + (l .i + 1) = omega arith in (
-      omega arith,
-      λ h.
-          let e = neither _ _ (sym (c .either .ensures) ∙ h) in
-          l .inv .1 (e .0)
-          ∙ runAt-on isWord (a .s .now) (a .at + l .i) (omega (arith, c .before .before .before .before .before .before .pre)) (c .before .not-letter .ensures (e .1))
-          ∙ ap (runAt isWord (a .s .now)) n,
-    )
+    let at-loop = c .before .before .before .before in
+    let entry = at-loop .before .before in
+    tested-turn isLetter (entry .args .s .now) (entry .args .at) 32 _ _ _ _ (entry .pre) (search needs) (at-loop .loop .inv) (c .before .not-letter .ensures) (c .either .ensures)
 
 returns : tie.Need-returns Inv-loop μ-loop
-returns c =
-    let a = c .before .before .before .args in
-    let l = c .before .loop in
-    let n : a .at + l .i ≡ a .at + 32 = omega (arith, l .inv .0) in
-    λ h. l .inv .1 h ∙ ap (runAt isWord (a .s .now)) n
+returns c = let a = c .before .before .before .args in tested-end isLetter (a .s .now) (a .at) 32 _ _ (search needs) (c .before .loop .inv)
 
 pub any-not-letter-spec : {M : Type 1} → statement M
 any-not-letter-spec =

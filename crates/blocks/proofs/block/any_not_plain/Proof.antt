@@ -1,25 +1,23 @@
--- `block::any_not_plain` meets its contract. The invariant: while no byte failed a test, the run from `at` on goes on at `at + i`.
+-- `block::any_not_plain` meets its contract. The invariant: after i bytes the two say whether the run from `at` on ends before the next.
 -- Assumes nothing.
-use mathlib.Core.Path.{_≡_, _∙_, sym, ap}
-use mathlib.Core.Bool.{false}
-use Prim.Native.Nat.{_+_, _-_, _≤_}
+use mathlib.Core.Path.{_∙_}
+use mathlib.Core.Bool.{_||_}
+use Prim.Native.Nat.{_-_}
 use native.Mathlib.Omega.{arith}
 use Rattle.scan.specs.Bytes.{isPlain}
-use Rattle.scan.specs.Scan.{runAt}
-use Rattle.scan.specs.RunLaws.{runAt-on}
-use Rattle.blocks.specs.BlockLaws.{neither, plain-by}
+use Rattle.blocks.specs.BlockLaws.{Tested, tested-start, tested-turn, tested-end, plain-by, or-swap}
 use borrow.Author.Needs.{needs}
 use Rattle.blocks.proofs.block.any_not_plain.Statement.{statement}
 use Rattle.blocks.proofs.block.any_not_plain.Tie as tie
 
 abbrev Inv-loop : tie.InvT-loop
-Inv-loop s at blank₀ sign₀ i₀ blank sign i = (i ≤ 32) × (blank ≡ false → sign ≡ false → runAt isPlain s at ≡ runAt isPlain s (at + i))
+Inv-loop s at blank₀ sign₀ i₀ blank sign i = Tested isPlain s at 32 (blank || sign) i
 
 abbrev μ-loop : tie.MeasureT-loop
 μ-loop s at blank₀ sign₀ i₀ blank sign i = 32 - i
 
 loop-holds : tie.Need-loop-holds Inv-loop μ-loop
-loop-holds c = (omega arith, λ h k. let e : c .before .args .at ≡ c .before .args .at + 0 = omega arith in ap (runAt isPlain (c .before .args .s .now)) e)
+loop-holds c = let a = c .before .args in tested-start isPlain (a .s .now) (a .at) 32
 
 add-b : tie.Need-add-b Inv-loop μ-loop
 add-b c = omega arith
@@ -47,17 +45,15 @@ loop-less c = search needs
 
 loop-again : tie.Need-loop-again Inv-loop μ-loop
 loop-again c =
-    let a = c .before .before .before .before .before .before .before .before .args in
-    let l = c .before .before .before .before .before .before .loop in
-    let n : a .at + l .i + 1 ≡ a .at + (l .i + 1) = omega arith in (
-      omega arith,
-      λ h k.
-          let e = neither _ _ (sym (c .before .before .either .ensures) ∙ h) in
-          let f = neither _ _ (sym (c .either2 .ensures) ∙ k) in
-          l .inv .1 (e .0) (f .0)
-          ∙ runAt-on isPlain (a .s .now) (a .at + l .i) (omega (arith, c .before .before .before .before .before .before .before .before .pre)) (plain-by _ (sym (c .before .before .before .is-blank .ensures) ∙ e .1) (sym (c .before .is-sign .ensures) ∙ f .1))
-          ∙ ap (runAt isPlain (a .s .now)) n,
-    )
+    let tested = c .before .before .before in
+    let at-loop = tested .before .before .before in
+    let entry = at-loop .before .before in
+    let l = at-loop .loop in
+    let blank = tested .is-blank in
+    let sign = c .before .is-sign in
+    tested-turn isPlain (entry .args .s .now) (entry .args .at) 32 _ _ _ _ (entry .pre) (search needs) (l .inv)
+    (plain-by _ _ _ (blank .ensures) (sign .ensures))
+    (or-swap (l .blank) (l .sign) (blank .result) (sign .result) _ _ (c .before .before .either .ensures) (c .either2 .ensures))
 
 either-requires-3 : tie.Need-either-requires-3 Inv-loop μ-loop
 either-requires-3 c κs = search needs
@@ -65,11 +61,7 @@ either-requires-3 c κs = search needs
 returns : tie.Need-returns Inv-loop μ-loop
 returns c =
     let a = c .before .before .before .before .args in
-    let l = c .before .before .loop in
-    let n : a .at + l .i ≡ a .at + 32 = omega (arith, l .inv .0) in
-    λ h.
-    let e = neither _ _ (sym (c .either3 .ensures) ∙ h) in
-    l .inv .1 (e .0) (e .1) ∙ ap (runAt isPlain (a .s .now)) n
+    c .either3 .ensures ∙ tested-end isPlain (a .s .now) (a .at) 32 _ _ (search needs) (c .before .before .loop .inv)
 
 pub any-not-plain-spec : {M : Type 1} → statement M
 any-not-plain-spec =

@@ -20,7 +20,7 @@ returns : tie.Need-returns
 returns c = sym (runAt-off _ _ _ (search needs) (sym (c .before .is-kind .ensures) ∙ not-true _ (c .if2 .taken)))
 
 -- the first byte is of the kind
-first : (c : tie.Else2) → isKind (c .before .before .before .before .before .args .k) (getD (c .before .before .before .before .before .args .s .now) (c .before .before .before .before .before .args .at) 0) ≡ true
+first : (c : tie.Else2) → let inside = c .before .before .before in let a = inside .before .before .args in isKind (a .k) (getD (a .s .now) (a .at) 0) ≡ true
 first c = sym (c .before .is-kind .ensures) ∙ not-false _ (c .if2 .left)
 
 add-i : tie.Need-add-i

@@ -1,7 +1,7 @@
 -- `run::plain_end` meets its contract.
 -- Assumes nothing.
-use mathlib.Core.Path.{_∙_, sym}
-use Rattle.scan.specs.Bytes.{isKind}
+use Rattle.scan.specs.Bytes.{isKind, isPlain}
+use Rattle.blocks.specs.BlockLaws.{probed-ends, probed-on}
 use borrow.Author.Needs.{needs}
 use Rattle.blocks.proofs.run.plain_end.Statement.{statement}
 use Rattle.blocks.proofs.run.plain_end.Tie as tie
@@ -23,11 +23,13 @@ run-end-requires c κs = search needs
 
 returns : tie.Need-returns
 unfolding isKind
-returns c = rw (c .before .i .given .1) at (c .before .before .before .probe .ensures)
+returns c = probed-ends isPlain _ _ _ _ (c .before .before .before .probe .ensures) (c .before .i .given .1)
 
 returns-2 : tie.Need-returns-2
 unfolding isKind
-returns-2 c = c .run-end .ensures ∙ sym (c .before .blocks-end .ensures) ∙ sym (rw (c .before .before .before .i2 .given .1) at (c .before .before .before .before .before .probe .ensures))
+returns-2 c =
+    let l = c .before .before .before in
+    probed-on isPlain _ _ _ _ _ _ (l .before .before .probe .ensures) (l .i2 .given .1) (c .before .blocks-end .ensures) (c .run-end .ensures)
 
 pub plain-end-spec : {M : Type 1} → statement M
 plain-end-spec =

@@ -28,10 +28,12 @@ is-kind-requires : tie.Need-is-kind-requires Inv-loop μ-loop
 is-kind-requires c κs = search needs
 
 returns : tie.Need-returns Inv-loop μ-loop
-returns c = sym (c .before .before .before .before .loop .inv .1 ∙ runAt-off _ _ _ (search needs) (sym (c .before .is-kind .ensures) ∙ not-true _ (c .if1 .taken)))
+returns c =
+    let loop = c .before .before .before .before .loop in
+    sym (loop .inv .1 ∙ runAt-off _ _ _ (search needs) (sym (c .before .is-kind .ensures) ∙ not-true _ (c .if1 .taken)))
 
 returns-2 : tie.Need-returns-2 Inv-loop μ-loop
-returns-2 c = c .before .before .before .before .before .loop .inv .1
+returns-2 c = let turn = c .before .before .before .before in turn .before .loop .inv .1
 
 sub-left : tie.Need-sub-left Inv-loop μ-loop
 sub-left c = search needs
@@ -44,7 +46,9 @@ loop-less c = search needs
 
 loop-again : tie.Need-loop-again Inv-loop μ-loop
 loop-again c =
-    (omega arith, c .before .before .before .before .before .loop .inv .1 ∙ runAt-on _ _ _ (search needs) (sym (c .before .before .is-kind .ensures) ∙ not-false _ (c .before .if1 .left)))
+    let turn = c .before .before .before .before in
+    let passed = sym (c .before .before .is-kind .ensures) ∙ not-false _ (c .before .if1 .left) in
+    (omega arith, turn .before .loop .inv .1 ∙ runAt-on _ _ _ (search needs) passed)
 
 returns-3 : tie.Need-returns-3 Inv-loop μ-loop
 returns-3 c = sym (c .before .loop .inv .1 ∙ runAt-end _ _ _ (search needs))

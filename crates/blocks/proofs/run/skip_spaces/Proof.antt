@@ -23,7 +23,7 @@ unfolding isKind
 returns c = sym (runAt-none isSpace _ _ (ap isSpace (sym (c .before .before .byte-at .ensures)) ∙ sym (c .before .is-kind .ensures) ∙ not-true _ (c .if1 .taken)))
 
 -- the first byte is a space, and stands within the text
-first : (c : tie.Else1) → isSpace (getD (c .before .before .before .before .args .s .now) (c .before .before .before .before .args .at) 0) ≡ true
+first : (c : tie.Else1) → let a = c .before .before .before .before .args in isSpace (getD (a .s .now) (a .at) 0) ≡ true
 unfolding isKind
 first c = ap isSpace (sym (c .before .before .byte-at .ensures)) ∙ sym (c .before .is-kind .ensures) ∙ not-false _ (c .if1 .left)
 
@@ -43,8 +43,9 @@ is-kind-requires-2 c κs = search needs
 returns-2 : tie.Need-returns-2
 unfolding isKind
 returns-2 c =
-    let a = c .before .before .before .before .before .before .before .args in
-    let f = first (c .before .before .before) in
+    let past-first = c .before .before .before in
+    let a = past-first .before .before .before .before .args in
+    let f = first past-first in
     sym
     (runAt-on isSpace (a .s .now) (a .at) (inside isSpace (a .s .now) (a .at) no-space f) f
     ∙ runAt-none isSpace _ _ (ap isSpace (sym (c .before .before .byte-at2 .ensures)) ∙ sym (c .before .is-kind2 .ensures) ∙ not-true _ (c .if2 .taken)))
@@ -55,8 +56,9 @@ long-run-end-requires c κs = search needs
 returns-3 : tie.Need-returns-3
 unfolding isKind
 returns-3 c =
-    let a = c .before .before .before .before .before .before .before .before .args in
-    let f = first (c .before .before .before .before) in
+    let past-first = c .before .before .before .before in
+    let a = past-first .before .before .before .before .args in
+    let f = first past-first in
     c .long-run-end .ensures ∙ sym (runAt-on isSpace (a .s .now) (a .at) (inside isSpace (a .s .now) (a .at) no-space f) f)
 
 pub skip-spaces-spec : {M : Type 1} → statement M

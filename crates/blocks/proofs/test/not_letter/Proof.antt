@@ -1,8 +1,5 @@
 -- `test::not_letter` meets its contract.
 -- Assumes nothing.
-use mathlib.Core.Path.{_∙_, sym}
-use borrow.Author.Tests.{not-false}
-use Rattle.scan.specs.Bytes.{isWord}
 use borrow.Author.Needs.{needs}
 use Rattle.blocks.proofs.test.not_letter.Statement.{statement}
 use Rattle.blocks.proofs.test.not_letter.Tie as tie
@@ -17,8 +14,7 @@ either-requires : tie.Need-either-requires
 either-requires c κs = search needs
 
 returns : tie.Need-returns
-unfolding isWord
-returns c = λ h. rw (sym (c .before .before .within .ensures), sym (c .before .within2 .ensures), sym (c .either .ensures) ∙ not-false _ h)
+returns c = rw (c .either .ensures, c .before .before .within .ensures, c .before .within2 .ensures)
 
 pub not-letter-spec : {M : Type 1} → statement M
 not-letter-spec = tie.close (tie.spec within-requires within-requires-2 either-requires returns)

@@ -1,7 +1,7 @@
 -- `test::not_quoted` meets its contract.
 -- Assumes nothing.
-use mathlib.Core.Path.{ap}
-use mathlib.Core.Bool.{not}
+use mathlib.Core.Path.{sym}
+use mathlib.Core.Bool.{Bool·not-not}
 use Rattle.scan.specs.Bytes.{isQuoted}
 use borrow.Author.Needs.{needs}
 use Rattle.blocks.proofs.test.not_quoted.Statement.{statement}
@@ -18,7 +18,7 @@ either-requires-3 c κs = search needs
 
 returns : tie.Need-returns
 unfolding isQuoted
-returns c = λ h. ap not (rw (c .either3 .ensures, c .before .either2 .ensures, c .before .before .either .ensures) at h)
+returns c = rw (c .either3 .ensures, c .before .either2 .ensures, c .before .before .either .ensures) (sym (Bool·not-not _))
 
 pub not-quoted-spec : {M : Type 1} → statement M
 not-quoted-spec = tie.close (tie.spec either-requires either-requires-2 either-requires-3 returns)

@@ -1,7 +1,7 @@
 -- `test::not_space` meets its contract.
 -- Assumes nothing.
-use mathlib.Core.Path.{_∙_, sym}
-use borrow.Author.Tests.{not-false}
+use mathlib.Core.Path.{ap}
+use mathlib.Core.Bool.{not}
 use Rattle.scan.specs.Bytes.{isSpace}
 use borrow.Author.Needs.{needs}
 use Rattle.blocks.proofs.test.not_space.Statement.{statement}
@@ -12,7 +12,7 @@ either-requires c κs = search needs
 
 returns : tie.Need-returns
 unfolding isSpace
-returns c = λ h. sym (c .either .ensures) ∙ not-false _ h
+returns c = ap not (c .either .ensures)
 
 pub not-space-spec : {M : Type 1} → statement M
 not-space-spec = tie.close (tie.spec either-requires returns)

@@ -1,25 +1,23 @@
--- `text::any_feed` meets its contract. The invariant: while every byte passed, the run from `from` on goes on at `from + i`.
+-- `text::any_feed` meets its contract. The invariant: after i bytes m says whether the run from `from` on ends before the next.
 -- Assumes nothing.
-use mathlib.Core.Path.{_≡_, _∙_, sym, ap}
-use mathlib.Core.Bool.{false}
-use Prim.Native.Nat.{_+_, _-_, _≤_}
+use mathlib.Core.Path.{sym}
+use mathlib.Core.Bool.{Bool·not-not}
+use Prim.Native.Nat.{_-_}
 use native.Mathlib.Omega.{arith}
-use Rattle.scan.specs.Scan.{runAt}
 use Rattle.scan.specs.Bytes.{isText}
-use Rattle.scan.specs.RunLaws.{runAt-on}
-use Rattle.blocks.specs.BlockLaws.{neither}
+use Rattle.blocks.specs.BlockLaws.{Tested, tested-start, tested-turn, tested-end, tested-through}
 use borrow.Author.Needs.{needs}
 use Rattle.blocks.proofs.text.any_feed.Statement.{statement}
 use Rattle.blocks.proofs.text.any_feed.Tie as tie
 
 abbrev Inv-loop : tie.InvT-loop
-Inv-loop s from n m₀ i₀ m i = (i ≤ n) × (m ≡ false → runAt isText s from ≡ runAt isText s (from + i))
+Inv-loop s from n m₀ i₀ m i = Tested isText s from n m i
 
 abbrev μ-loop : tie.MeasureT-loop
 μ-loop s from n m₀ i₀ m i = n - i
 
 loop-holds : tie.Need-loop-holds Inv-loop μ-loop
-loop-holds c = (omega arith, λ h. let e : c .before .args .from ≡ c .before .args .from + 0 = omega arith in ap (runAt isText (c .before .args .s .now)) e)
+loop-holds c = let a = c .before .args in tested-start isText (a .s .now) (a .from) (a .n)
 
 add-either : tie.Need-add-either Inv-loop μ-loop
 add-either c = omega arith
@@ -39,23 +37,14 @@ loop-less c = search needs
 loop-again : tie.Need-loop-again Inv-loop μ-loop
 unfolding isText
 loop-again c =
-    let a = c .before .before .before .before .before .args in
-    let l = c .before .before .before .loop in
-    let n : a .from + l .i + 1 ≡ a .from + (l .i + 1) = omega arith in (
-      omega arith,
-      λ h.
-          let e = neither _ _ (sym (c .either .ensures) ∙ h) in
-          l .inv .1 (e .0)
-          ∙ runAt-on isText (a .s .now) (a .from + l .i) (omega (arith, c .before .before .before .before .before .pre)) (rw (e .1))
-          ∙ ap (runAt isText (a .s .now)) n,
-    )
+    let at-loop = c .before .before .before in
+    let entry = at-loop .before .before in
+    tested-turn isText (entry .args .s .now) (entry .args .from) (entry .args .n) _ _ _ _ (entry .pre) (search needs) (at-loop .loop .inv) (sym (Bool·not-not _)) (c .either .ensures)
 
 returns : tie.Need-returns Inv-loop μ-loop
 returns c =
     let a = c .before .before .before .args in
-    let l = c .before .loop in
-    let n : a .from + l .i ≡ a .from + a .n = omega (arith, l .inv .0) in
-    λ h. l .inv .1 h ∙ ap (runAt isText (a .s .now)) n
+    tested-through isText (a .s .now) (a .from) (a .n) _ (tested-end isText (a .s .now) (a .from) (a .n) _ _ (search needs) (c .before .loop .inv))
 
 pub any-feed-spec : {M : Type 1} → statement M
 any-feed-spec =
