@@ -22,14 +22,18 @@ same-length c = search needs
 
 returns : tie.Need-returns
 unfolding recordOf
-returns c = rw (c .before .before .before .before .before .a .given .1) (c .before .before .put-window-action .ensures)
+returns c =
+    let at-put-window-action = c .before .before in
+    rw (at-put-window-action .before .before .before .a .given .1) (at-put-window-action .put-window-action .ensures)
 
 same-length-2 : tie.Need-same-length-2
 same-length-2 c = search needs
 
 returns-2 : tie.Need-returns-2
 unfolding recordOf
-returns-2 c = rw (c .before .before .before .before .before .a2 .given .1) (c .before .before .put-tab-action .ensures)
+returns-2 c =
+    let at-put-tab-action = c .before .before in
+    rw (at-put-tab-action .before .before .before .a2 .given .1) (at-put-tab-action .put-tab-action .ensures)
 
 pub put-action-spec : {M : Type 1} → statement M
 put-action-spec =

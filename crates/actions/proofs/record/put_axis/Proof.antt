@@ -1,5 +1,7 @@
 -- `record::put_axis` meets its contract.
 -- Assumes nothing.
+use Rattle.actions.specs.Record.{axisNo}
+use Rattle.actions.specs.Within.{within-case}
 use borrow.Author.Needs.{needs}
 use Rattle.actions.proofs.record.put_axis.Statement.{statement}
 use Rattle.actions.proofs.record.put_axis.Tie as tie
@@ -20,13 +22,13 @@ same-length : tie.Need-same-length
 same-length c = search needs
 
 returns : tie.Need-returns
-returns c = rw (c .before .before .before .before .enum-told .given .1) (c .before .before .put-small .ensures)
+returns c = within-case axisNo (c .before .before .before .before .enum-told .given .1) (c .before .before .put-small .ensures)
 
 same-length-2 : tie.Need-same-length-2
 same-length-2 c = search needs
 
 returns-2 : tie.Need-returns-2
-returns-2 c = rw (c .before .before .before .before .enum-told2 .given .1) (c .before .before .put-small2 .ensures)
+returns-2 c = within-case axisNo (c .before .before .before .before .enum-told2 .given .1) (c .before .before .put-small2 .ensures)
 
 pub put-axis-spec : {M : Type 1} → statement M
 put-axis-spec =

@@ -36,19 +36,28 @@ same-length : tie.Need-same-length
 same-length c = search needs
 
 returns : tie.Need-returns
-returns c = rw (c .before .before .before .before .before .before .before .before .before .c .given .1) (within-then 1 10 (c .before .before .before .before .before .before .put-small .ensures) (c .before .before .put-any .ensures))
+returns c =
+    let at-put-any = c .before .before in
+    let at-put-small = at-put-any .before .before .before .before in
+    rw (at-put-small .before .before .before .c .given .1) (within-then 1 10 (at-put-small .put-small .ensures) (at-put-any .put-any .ensures))
 
 same-length-2 : tie.Need-same-length-2
 same-length-2 c = search needs
 
 returns-2 : tie.Need-returns-2
-returns-2 c = rw (c .before .before .before .before .before .before .before .before .before .c2 .given .1) (within-then 1 10 (c .before .before .before .before .before .before .put-small2 .ensures) (c .before .before .put-any2 .ensures))
+returns-2 c =
+    let at-put-any2 = c .before .before in
+    let at-put-small2 = at-put-any2 .before .before .before .before in
+    rw (at-put-small2 .before .before .before .c2 .given .1) (within-then 1 10 (at-put-small2 .put-small2 .ensures) (at-put-any2 .put-any2 .ensures))
 
 same-length-3 : tie.Need-same-length-3
 same-length-3 c = search needs
 
 returns-3 : tie.Need-returns-3
-returns-3 c = rw (c .before .before .before .before .before .before .before .before .before .c3 .given .1) (within-then 1 10 (c .before .before .before .before .before .before .put-small3 .ensures) (c .before .before .put-any3 .ensures))
+returns-3 c =
+    let at-put-any3 = c .before .before in
+    let at-put-small3 = at-put-any3 .before .before .before .before in
+    rw (at-put-small3 .before .before .before .c3 .given .1) (within-then 1 10 (at-put-small3 .put-small3 .ensures) (at-put-any3 .put-any3 .ensures))
 
 pub put-change-spec : {M : Type 1} → statement M
 put-change-spec =

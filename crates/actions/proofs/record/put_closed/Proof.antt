@@ -19,7 +19,11 @@ same-length : tie.Need-same-length
 same-length c = search needs
 
 returns : tie.Need-returns
-returns c = within-then 1 (15 + 10) (c .before .before .before .before .before .before .before .before .before .before .put-small .ensures) (within-then 15 10 (c .before .before .before .before .before .before .put-target .ensures) (c .before .before .put-any .ensures))
+returns c =
+    let at-put-any = c .before .before in
+    let at-put-target = at-put-any .before .before .before .before in
+    within-then 1 (15 + 10) (at-put-target .before .before .before .before .put-small .ensures)
+    (within-then 15 10 (at-put-target .put-target .ensures) (at-put-any .put-any .ensures))
 
 pub put-closed-spec : {M : Type 1} → statement M
 put-closed-spec =

@@ -31,7 +31,10 @@ same-length-2 : tie.Need-same-length-2
 same-length-2 c = search needs
 
 returns-2 : tie.Need-returns-2
-returns-2 c = rw (c .before .before .before .before .before .before .before .before .before .c .given .1) (within-then 1 10 (c .before .before .before .before .before .before .put-small2 .ensures) (c .before .before .put-any .ensures))
+returns-2 c =
+    let at-put-any = c .before .before in
+    let at-put-small2 = at-put-any .before .before .before .before in
+    rw (at-put-small2 .before .before .before .c .given .1) (within-then 1 10 (at-put-small2 .put-small2 .ensures) (at-put-any .put-any .ensures))
 
 pub put-count-spec : {M : Type 1} → statement M
 put-count-spec =

@@ -58,13 +58,23 @@ same-length-2 : tie.Need-same-length-2
 same-length-2 c = search needs
 
 returns-2 : tie.Need-returns-2
-returns-2 c = rw (c .before .before .before .before .before .before .before .before .before .f .given .1) (within-more 11 14 (omega arith) (within-then 1 10 (c .before .before .before .before .before .before .put-small2 .ensures) (c .before .before .put-any .ensures)))
+returns-2 c =
+    let at-put-any = c .before .before in
+    let at-put-small2 = at-put-any .before .before .before .before in
+    rw (at-put-small2 .before .before .before .f .given .1)
+    (within-more 11 14 (omega arith) (within-then 1 10 (at-put-small2 .put-small2 .ensures) (at-put-any .put-any .ensures)))
 
 same-length-3 : tie.Need-same-length-3
 same-length-3 c = search needs
 
 returns-3 : tie.Need-returns-3
-returns-3 c = rw (c .before .before .before .before .before .before .before .before .before .before .before .before .before .before .before .before .before .f2 .given .1) (within-then 1 13 (c .before .before .before .before .before .before .before .before .before .before .before .before .before .before .put-small3 .ensures) (within-then 1 12 (c .before .before .before .before .before .before .before .before .before .before .put-direction .ensures) (within-then 11 1 (c .before .before .before .before .before .before .put-count .ensures) (c .before .before .put-bool .ensures))))
+returns-3 c =
+    let at-put-bool = c .before .before in
+    let at-put-count = at-put-bool .before .before .before .before in
+    let at-put-direction = at-put-count .before .before .before .before in
+    let at-put-small3 = at-put-direction .before .before .before .before in
+    rw (at-put-small3 .before .before .before .f2 .given .1) (within-then 1 13 (at-put-small3 .put-small3 .ensures)
+    (within-then 1 12 (at-put-direction .put-direction .ensures) (within-then 11 1 (at-put-count .put-count .ensures) (at-put-bool .put-bool .ensures))))
 
 same-length-4 : tie.Need-same-length-4
 same-length-4 c = search needs

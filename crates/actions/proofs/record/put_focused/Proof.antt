@@ -15,7 +15,9 @@ same-length : tie.Need-same-length
 same-length c = search needs
 
 returns : tie.Need-returns
-returns c = within-then 1 14 (c .before .before .before .before .before .before .put-small .ensures) (c .before .before .put-focus .ensures)
+returns c =
+    let at-put-focus = c .before .before in
+    within-then 1 14 (at-put-focus .before .before .before .before .put-small .ensures) (at-put-focus .put-focus .ensures)
 
 pub put-focused-spec : {M : Type 1} → statement M
 put-focused-spec = tie.close (tie.spec put-small-requires put-focus-requires same-length returns)

@@ -18,8 +18,9 @@ same-length c = search needs
 
 returns : tie.Need-returns
 returns c =
-    let a = c .before .before .before .before .before .before .args in
-    within-named _ (length (a .s .now)) (text-length (a .s .now) (a .start)) (omega arith) (c .before .before .put-item .ensures)
+    let at-put-item = c .before .before in
+    let a = at-put-item .before .before .before .before .args in
+    within-named _ (length (a .s .now)) (text-length (a .s .now) (a .start)) (omega arith) (at-put-item .put-item .ensures)
 
 pub put-item-within-spec : {M : Type 1} → statement M
 put-item-within-spec = tie.close (tie.spec put-item-requires same-length returns)

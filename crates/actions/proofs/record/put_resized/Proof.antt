@@ -22,7 +22,12 @@ same-length : tie.Need-same-length
 same-length c = search needs
 
 returns : tie.Need-returns
-returns c = within-then 1 (14 + (1 + 11)) (c .before .before .before .before .before .before .before .before .before .before .before .before .before .before .put-small .ensures) (within-then 14 (1 + 11) (c .before .before .before .before .before .before .before .before .before .before .put-focus .ensures) (within-then 1 11 (c .before .before .before .before .before .before .put-axis .ensures) (c .before .before .put-change .ensures)))
+returns c =
+    let at-put-change = c .before .before in
+    let at-put-axis = at-put-change .before .before .before .before in
+    let at-put-focus = at-put-axis .before .before .before .before in
+    within-then 1 (14 + (1 + 11)) (at-put-focus .before .before .before .before .put-small .ensures)
+    (within-then 14 (1 + 11) (at-put-focus .put-focus .ensures) (within-then 1 11 (at-put-axis .put-axis .ensures) (at-put-change .put-change .ensures)))
 
 pub put-resized-spec : {M : Type 1} → statement M
 put-resized-spec =

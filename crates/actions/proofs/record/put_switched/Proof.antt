@@ -19,7 +19,11 @@ same-length : tie.Need-same-length
 same-length c = search needs
 
 returns : tie.Need-returns
-returns c = within-more _ _ (omega arith) (within-then _ _ (c .before .before .before .before .before .before .before .before .before .before .put-small .ensures) (within-then _ _ (c .before .before .before .before .before .before .put-opened .ensures) (c .before .before .put-any .ensures)))
+returns c =
+    let at-put-any = c .before .before in
+    let at-put-opened = at-put-any .before .before .before .before in
+    within-more _ _ (omega arith) (within-then _ _ (at-put-opened .before .before .before .before .put-small .ensures)
+    (within-then _ _ (at-put-opened .put-opened .ensures) (at-put-any .put-any .ensures)))
 
 pub put-switched-spec : {M : Type 1} → statement M
 put-switched-spec =

@@ -43,25 +43,37 @@ same-length : tie.Need-same-length
 same-length c = search needs
 
 returns : tie.Need-returns
-returns c = rw (c .before .before .before .before .before .t .given .1) (within-more _ _ (omega arith) (c .before .before .put-closed .ensures))
+returns c =
+    let at-put-closed = c .before .before in
+    rw (at-put-closed .before .before .before .t .given .1) (within-more _ _ (omega arith) (at-put-closed .put-closed .ensures))
 
 same-length-2 : tie.Need-same-length-2
 same-length-2 c = search needs
 
 returns-2 : tie.Need-returns-2
-returns-2 c = rw (c .before .before .before .before .before .t2 .given .1) (within-more _ _ (omega arith) (c .before .before .put-focused .ensures))
+returns-2 c =
+    let at-put-focused = c .before .before in
+    rw (at-put-focused .before .before .before .t2 .given .1) (within-more _ _ (omega arith) (at-put-focused .put-focused .ensures))
 
 same-length-3 : tie.Need-same-length-3
 same-length-3 c = search needs
 
 returns-3 : tie.Need-returns-3
-returns-3 c = rw (c .before .before .before .before .before .t3 .given .1) (within-more _ _ (omega arith) (c .before .before .put-focused2 .ensures))
+returns-3 c =
+    let at-put-focused2 = c .before .before in
+    rw (at-put-focused2 .before .before .before .t3 .given .1) (within-more _ _ (omega arith) (at-put-focused2 .put-focused2 .ensures))
 
 same-length-4 : tie.Need-same-length-4
 same-length-4 c = search needs
 
 returns-4 : tie.Need-returns-4
-returns-4 c = rw (c .before .before .before .before .before .before .before .before .before .before .before .before .before .before .before .before .before .t4 .given .1) (within-more _ _ (omega arith) (within-then _ _ (c .before .before .before .before .before .before .before .before .before .before .before .before .before .before .put-small .ensures) (within-then _ _ (c .before .before .before .before .before .before .before .before .before .before .put-opened .ensures) (within-then _ _ (c .before .before .before .before .before .before .put-any .ensures) (c .before .before .put-focus .ensures)))))
+returns-4 c =
+    let at-put-focus = c .before .before in
+    let at-put-any = at-put-focus .before .before .before .before in
+    let at-put-opened = at-put-any .before .before .before .before in
+    let at-put-small = at-put-opened .before .before .before .before in
+    rw (at-put-small .before .before .before .t4 .given .1) (within-more _ _ (omega arith) (within-then _ _ (at-put-small .put-small .ensures)
+    (within-then _ _ (at-put-opened .put-opened .ensures) (within-then _ _ (at-put-any .put-any .ensures) (at-put-focus .put-focus .ensures)))))
 
 pub put-tab-action-spec : {M : Type 1} → statement M
 put-tab-action-spec =

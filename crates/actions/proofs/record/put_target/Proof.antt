@@ -34,13 +34,19 @@ same-length : tie.Need-same-length
 same-length c = search needs
 
 returns : tie.Need-returns
-returns c = rw (c .before .before .before .before .before .before .before .before .before .t .given .1) (within-then 1 14 (c .before .before .before .before .before .before .put-small .ensures) (c .before .before .put-focus .ensures))
+returns c =
+    let at-put-focus = c .before .before in
+    let at-put-small = at-put-focus .before .before .before .before in
+    rw (at-put-small .before .before .before .t .given .1) (within-then 1 14 (at-put-small .put-small .ensures) (at-put-focus .put-focus .ensures))
 
 same-length-2 : tie.Need-same-length-2
 same-length-2 c = search needs
 
 returns-2 : tie.Need-returns-2
-returns-2 c = rw (c .before .before .before .before .before .before .before .before .before .t2 .given .1) (within-then 1 14 (c .before .before .before .before .before .before .put-small2 .ensures) (c .before .before .put-focus2 .ensures))
+returns-2 c =
+    let at-put-focus2 = c .before .before in
+    let at-put-small2 = at-put-focus2 .before .before .before .before in
+    rw (at-put-small2 .before .before .before .t2 .given .1) (within-then 1 14 (at-put-small2 .put-small2 .ensures) (at-put-focus2 .put-focus2 .ensures))
 
 same-length-3 : tie.Need-same-length-3
 same-length-3 c = search needs

@@ -28,7 +28,15 @@ same-length : tie.Need-same-length
 same-length c = search needs
 
 returns : tie.Need-returns
-returns c = within-more _ _ (omega arith) (within-then _ _ (c .before .before .before .before .before .before .before .before .before .before .before .before .before .before .before .before .before .before .before .before .before .before .put-small .ensures) (within-then _ _ (c .before .before .before .before .before .before .before .before .before .before .before .before .before .before .before .before .before .before .put-opened .ensures) (within-then _ _ (c .before .before .before .before .before .before .before .before .before .before .before .before .before .before .put-any .ensures) (within-then _ _ (c .before .before .before .before .before .before .before .before .before .before .put-axis .ensures) (within-then _ _ (c .before .before .before .before .before .before .put-side .ensures) (c .before .before .put-count .ensures))))))
+returns c =
+    let at-put-count = c .before .before in
+    let at-put-side = at-put-count .before .before .before .before in
+    let at-put-axis = at-put-side .before .before .before .before in
+    let at-put-any = at-put-axis .before .before .before .before in
+    let at-put-opened = at-put-any .before .before .before .before in
+    within-more _ _ (omega arith) (within-then _ _ (at-put-opened .before .before .before .before .put-small .ensures)
+    (within-then _ _ (at-put-opened .put-opened .ensures) (within-then _ _ (at-put-any .put-any .ensures)
+    (within-then _ _ (at-put-axis .put-axis .ensures) (within-then _ _ (at-put-side .put-side .ensures) (at-put-count .put-count .ensures))))))
 
 pub put-window-spec : {M : Type 1} → statement M
 put-window-spec =

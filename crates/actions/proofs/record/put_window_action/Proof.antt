@@ -46,37 +46,49 @@ same-length : tie.Need-same-length
 same-length c = search needs
 
 returns : tie.Need-returns
-returns c = rw (c .before .before .before .before .before .w .given .1) (within-more _ _ (omega arith) (c .before .before .put-closed .ensures))
+returns c =
+    let at-put-closed = c .before .before in
+    rw (at-put-closed .before .before .before .w .given .1) (within-more _ _ (omega arith) (at-put-closed .put-closed .ensures))
 
 same-length-2 : tie.Need-same-length-2
 same-length-2 c = search needs
 
 returns-2 : tie.Need-returns-2
-returns-2 c = rw (c .before .before .before .before .before .w2 .given .1) (within-more _ _ (omega arith) (c .before .before .put-resized .ensures))
+returns-2 c =
+    let at-put-resized = c .before .before in
+    rw (at-put-resized .before .before .before .w2 .given .1) (within-more _ _ (omega arith) (at-put-resized .put-resized .ensures))
 
 same-length-3 : tie.Need-same-length-3
 same-length-3 c = search needs
 
 returns-3 : tie.Need-returns-3
-returns-3 c = rw (c .before .before .before .before .before .w3 .given .1) (within-more _ _ (omega arith) (c .before .before .put-window .ensures))
+returns-3 c =
+    let at-put-window = c .before .before in
+    rw (at-put-window .before .before .before .w3 .given .1) (within-more _ _ (omega arith) (at-put-window .put-window .ensures))
 
 same-length-4 : tie.Need-same-length-4
 same-length-4 c = search needs
 
 returns-4 : tie.Need-returns-4
-returns-4 c = rw (c .before .before .before .before .before .w4 .given .1) (within-more _ _ (omega arith) (c .before .before .put-window2 .ensures))
+returns-4 c =
+    let at-put-window2 = c .before .before in
+    rw (at-put-window2 .before .before .before .w4 .given .1) (within-more _ _ (omega arith) (at-put-window2 .put-window2 .ensures))
 
 same-length-5 : tie.Need-same-length-5
 same-length-5 c = search needs
 
 returns-5 : tie.Need-returns-5
-returns-5 c = rw (c .before .before .before .before .before .w5 .given .1) (within-more _ _ (omega arith) (c .before .before .put-switched .ensures))
+returns-5 c =
+    let at-put-switched = c .before .before in
+    rw (at-put-switched .before .before .before .w5 .given .1) (within-more _ _ (omega arith) (at-put-switched .put-switched .ensures))
 
 same-length-6 : tie.Need-same-length-6
 same-length-6 c = search needs
 
 returns-6 : tie.Need-returns-6
-returns-6 c = rw (c .before .before .before .before .before .w6 .given .1) (within-more _ _ (omega arith) (c .before .before .put-write .ensures))
+returns-6 c =
+    let at-put-write = c .before .before in
+    rw (at-put-write .before .before .before .w6 .given .1) (within-more _ _ (omega arith) (at-put-write .put-write .ensures))
 
 pub put-window-action-spec : {M : Type 1} → statement M
 put-window-action-spec =

@@ -22,7 +22,12 @@ same-length : tie.Need-same-length
 same-length c = search needs
 
 returns : tie.Need-returns
-returns c = within-more _ _ (omega arith) (within-then _ _ (c .before .before .before .before .before .before .before .before .before .before .before .before .before .before .put-small .ensures) (within-then _ _ (c .before .before .before .before .before .before .before .before .before .before .put-target .ensures) (within-then _ _ (c .before .before .before .before .before .before .put-written .ensures) (c .before .before .put-any .ensures))))
+returns c =
+    let at-put-any = c .before .before in
+    let at-put-written = at-put-any .before .before .before .before in
+    let at-put-target = at-put-written .before .before .before .before in
+    within-more _ _ (omega arith) (within-then _ _ (at-put-target .before .before .before .before .put-small .ensures)
+    (within-then _ _ (at-put-target .put-target .ensures) (within-then _ _ (at-put-written .put-written .ensures) (at-put-any .put-any .ensures))))
 
 pub put-write-spec : {M : Type 1} → statement M
 put-write-spec =
