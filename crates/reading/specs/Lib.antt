@@ -7,4 +7,5 @@ pub mod Behind
 pub mod Shift
 pub mod ShiftLaws
 pub mod Checks
+pub mod AloneLaws
 pub mod Samples

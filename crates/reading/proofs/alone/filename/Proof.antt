@@ -22,7 +22,10 @@ lone-requires-2 c κs = search needs
 returns-2 : tie.Need-returns-2
 unfolding filenameSeen filenameBytes filenameOf
 returns-2 c =
-    (rw (sym (c .before .before .before .lone .ensures) ∙ c .before .before .if1 .left, sym (c .before .lone2 .ensures) ∙ c .if2 .taken), rw (sym (c .before .before .before .lone .ensures) ∙ c .before .before .if1 .left, sym (c .before .lone2 .ensures) ∙ c .if2 .taken))
+    let at-if1 = c .before .before in
+    let no-hash = sym (at-if1 .before .lone .ensures) ∙ at-if1 .if1 .left in
+    let percent = sym (c .before .lone2 .ensures) ∙ c .if2 .taken in
+    (rw (no-hash, percent), rw (no-hash, percent))
 
 copy-item-requires : tie.Need-copy-item-requires
 copy-item-requires c κs = search needs
@@ -33,12 +36,14 @@ same-length c = search needs
 returns-3 : tie.Need-returns-3
 unfolding filenameSeen filenameBytes filenameOf
 returns-3 c =
-    let a = c .before .before .before .before .before .before .before .before .before .before .args in
+    let at-if2 = c .before .before .before .before in
+    let at-if1 = at-if2 .before .before in
+    let a = at-if1 .before .before .before .before .args in
     let p = c .before .before .copy-item .ensures in
-    let n : c .before .before .copy-item .result ≡ length (textAt (a .s .now) (a .x .start)) = omega (arith, p .place) in (
-      rw (sym (c .before .before .before .before .before .before .before .lone .ensures) ∙ c .before .before .before .before .before .before .if1 .left, sym (c .before .before .before .before .before .lone2 .ensures) ∙ c .before .before .before .before .if2 .left, n),
-      rw (sym (c .before .before .before .before .before .before .before .lone .ensures) ∙ c .before .before .before .before .before .before .if1 .left, sym (c .before .before .before .before .before .lone2 .ensures) ∙ c .before .before .before .before .if2 .left) (p .store),
-    )
+    let n : c .before .before .copy-item .result ≡ length (textAt (a .s .now) (a .x .start)) = omega (arith, p .place) in
+    let no-hash = sym (at-if1 .before .lone .ensures) ∙ at-if1 .if1 .left in
+    let no-percent = sym (at-if2 .before .lone2 .ensures) ∙ at-if2 .if2 .left in
+    (rw (no-hash, no-percent, n), rw (no-hash, no-percent) (p .store))
 
 pub filename-spec : {M : Type 1} → statement M
 filename-spec =

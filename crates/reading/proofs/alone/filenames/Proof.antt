@@ -1,10 +1,7 @@
 -- `alone::filenames` meets its contract.
 -- Assumes nothing.
-use mathlib.Core.Path.{_∙_, sym}
-use native.Mathlib.Omega.{arith}
-use lib.ListN.{length}
-use Rattle.reading.specs.Alone.{Answer, filenamesAlone, filenamesTold, filenameSeen, filenameBytes}
-use Rattle.reading.specs.Checks.{check-room, check-bad, said-refused, said-checked}
+use Rattle.reading.specs.Alone.{filenamesAlone, filenamesTold, filenameSeen, filenameBytes}
+use Rattle.reading.specs.AloneLaws.{alone-room, alone-good, alone-bad}
 use borrow.Author.Needs.{needs}
 use Rattle.reading.proofs.alone.filenames.Statement.{statement}
 use Rattle.reading.proofs.alone.filenames.Tie as tie
@@ -16,9 +13,7 @@ enum-told : tie.Need-enum-told
 enum-told c = search needs
 
 filenames-in-requires : tie.Need-filenames-in-requires
-filenames-in-requires c κs =
-    let a = c .before .before .before .before .before .before .args in
-    omega (arith, check-room (a .text .now) (length (a .store .now)) (sym (c .before .before .before .check .ensures) ∙ c .before .enum-told .given .1))
+filenames-in-requires c κs = alone-room _ _ _ (c .before .before .before .check .ensures) (c .before .enum-told .given .1)
 
 enum-known-x : tie.Need-enum-known-x
 enum-known-x c = search needs
@@ -29,15 +24,12 @@ same-length c = search needs
 returns : tie.Need-returns
 unfolding filenamesAlone filenamesTold
 returns c =
-    let a = c .before .before .before .before .before .before .before .before .before .args in
-    said-checked filenameSeen filenameBytes _ _ (a .text .now) (length (a .store .now)) (sym (c .before .before .before .before .before .before .check .ensures) ∙ c .before .before .before .before .enum-told .given .1) (c .before .before .filenames-in .ensures)
+    let at-enum-told = c .before .before .before .before in
+    alone-good _ _ _ (at-enum-told .before .before .check .ensures) filenameSeen filenameBytes _ _ (at-enum-told .enum-told .given .1) (c .before .before .filenames-in .ensures)
 
 returns-2 : tie.Need-returns-2
 unfolding filenamesAlone filenamesTold
-returns-2 c =
-    let a = c .before .before .before .before .before .before .args in
-    said-refused filenameSeen filenameBytes _ _ _
-    (check-bad (a .text .now) (length (a .store .now)) _ (sym (c .before .before .before .check .ensures) ∙ c .before .x .given .1) Answer.refused _)
+returns-2 c = alone-bad _ _ _ (c .before .before .before .check .ensures) filenameSeen filenameBytes _ _ _ (c .before .x .given .1)
 
 pub filenames-spec : {M : Type 1} → statement M
 filenames-spec =

@@ -1,11 +1,9 @@
 -- `alone::filenames_in` meets its contract.
 -- Assumes nothing.
-use mathlib.Core.Path.{_∙_, sym, ap}
-use mathlib.Core.Bool.{false}
 use native.Mathlib.Omega.{arith}
-use Rattle.lists.specs.ListLaws.{text-length}
 use Rattle.reading.specs.Alone.{filenamesTold, refusalNo, filenameSeen, filenameBytes}
-use Rattle.reading.specs.Checks.{byPick, byList, list-answer, said-refused, said-beyond, said-item, filename-short}
+use Rattle.reading.specs.Checks.{said-refused, said-beyond, said-item, filename-short}
+use Rattle.reading.specs.AloneLaws.{item-room, list-bad, list-pick}
 use borrow.Author.Needs.{needs}
 use Rattle.reading.proofs.alone.filenames_in.Statement.{statement}
 use Rattle.reading.proofs.alone.filenames_in.Tie as tie
@@ -30,19 +28,21 @@ enum-known-picked c = search needs
 
 filename-requires : tie.Need-filename-requires
 filename-requires c κs =
-    let a = c .before .before .before .before .before .before .before .before .before .before .before .before .before .args in
-    (search needs, record { fits = omega (arith, text-length (a .text .now) (c .before .before .before .picked .given .0 .0 .start), c .before .before .before .before .before .before .before .before .before .before .before .before .before .pre) })
+    let at-picked = c .before .before .before in
+    let at-seen = at-picked .before .before .before in
+    let at-classes = at-seen .before .before .before .before in
+    let entry = at-classes .before .before .before in
+    (search needs, item-room (entry .args .text .now) (entry .args .store .now) (at-picked .picked .given .0 .0 .start) (entry .pre))
 
 returns : tie.Need-returns
 unfolding filenamesTold refusalNo
-returns c =
-    said-refused filenameSeen filenameBytes _ _ 3 (list-answer _ _ _ false ∙ ap (byList _) (sym (c .before .before .parse-list .ensures) ∙ c .enum-told .given .1))
+returns c = said-refused filenameSeen filenameBytes _ _ 3 (list-bad _ _ _ _ (c .before .before .parse-list .ensures) (c .enum-told .given .1))
 
 returns-2 : tie.Need-returns-2
 unfolding filenamesTold refusalNo
 returns-2 c =
-    said-beyond filenameSeen filenameBytes _ _ _
-    (list-answer _ _ _ false ∙ ap (byList _) (sym (c .before .before .before .before .before .parse-list .ensures) ∙ c .before .before .before .seen .given .1) ∙ ap (byPick _ _) (c .enum-told2 .given .1))
+    let at-seen = c .before .before .before in
+    said-beyond filenameSeen filenameBytes _ _ _ (list-pick _ _ _ _ (at-seen .before .before .parse-list .ensures) _ _ (at-seen .seen .given .1) (c .enum-told2 .given .1))
 
 same-length : tie.Need-same-length
 same-length c = search needs
@@ -50,12 +50,16 @@ same-length c = search needs
 returns-3 : tie.Need-returns-3
 unfolding filenamesTold refusalNo
 returns-3 c =
-    let a = c .before .before .before .before .before .before .before .before .before .before .before .before .before .before .before .before .args in
+    let at-filename = c .before .before in
+    let at-picked = at-filename .before .before .before .before in
+    let at-seen = at-picked .before .before .before in
+    let at-classes = at-seen .before .before .before .before in
+    let entry = at-classes .before .before .before in
     said-item filenameSeen filenameBytes _ _ _ _
-    (list-answer _ _ _ false ∙ ap (byList _) (sym (c .before .before .before .before .before .before .before .before .before .before .before .parse-list .ensures) ∙ c .before .before .before .before .before .before .before .before .before .seen .given .1) ∙ ap (byPick _ _) (c .before .before .before .before .before .before .picked .given .1))
-    (c .before .before .filename .ensures .0)
-    (omega (arith, filename-short (a .text .now) (c .before .before .before .before .before .before .picked .given .0 .0), c .before .before .before .before .before .before .before .before .before .before .before .before .before .before .before .before .pre))
-    (c .before .before .filename .ensures .1)
+    (list-pick _ _ _ _ (at-seen .before .before .parse-list .ensures) _ _ (at-seen .seen .given .1) (at-picked .picked .given .1))
+    (at-filename .filename .ensures .0)
+    (omega (arith, filename-short (entry .args .text .now) (at-picked .picked .given .0 .0), entry .pre))
+    (at-filename .filename .ensures .1)
 
 pub filenames-in-spec : {M : Type 1} → statement M
 filenames-in-spec =

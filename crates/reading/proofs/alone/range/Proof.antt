@@ -25,7 +25,10 @@ range-reply-requires c κs = search needs
 
 returns-2 : tie.Need-returns-2
 unfolding rangeTold rangeAlone refusalNo
-returns-2 c = rw (le-leb _ _ (c .before .before .before .before .before .before .if1 .left), sym (c .before .before .before .before .before .is-utf8 .ensures) ∙ c .before .before .before .before .if2 .taken, ← c .before .parse-whole-range .ensures) (c .range-reply .ensures)
+returns-2 c =
+    let at-if2 = c .before .before .before .before in
+    rw (le-leb _ _ (at-if2 .before .before .if1 .left), sym (at-if2 .before .is-utf8 .ensures) ∙ at-if2 .if2 .taken, ← c .before .parse-whole-range .ensures)
+    (c .range-reply .ensures)
 
 returns-3 : tie.Need-returns-3
 unfolding rangeTold rangeAlone refusalNo

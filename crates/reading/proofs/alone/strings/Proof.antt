@@ -1,10 +1,8 @@
 -- `alone::strings` meets its contract.
 -- Assumes nothing.
-use mathlib.Core.Path.{_∙_, sym}
-use native.Mathlib.Omega.{arith}
 use lib.ListN.{length}
-use Rattle.reading.specs.Alone.{Answer, stringsAlone, stringsTold}
-use Rattle.reading.specs.Checks.{check-room, check-bad, said-refused, said-checked}
+use Rattle.reading.specs.Alone.{stringsAlone, stringsTold}
+use Rattle.reading.specs.AloneLaws.{alone-room, alone-good, alone-bad}
 use borrow.Author.Needs.{needs}
 use Rattle.reading.proofs.alone.strings.Statement.{statement}
 use Rattle.reading.proofs.alone.strings.Tie as tie
@@ -16,9 +14,7 @@ enum-told : tie.Need-enum-told
 enum-told c = search needs
 
 strings-in-requires : tie.Need-strings-in-requires
-strings-in-requires c κs =
-    let a = c .before .before .before .before .before .before .args in
-    omega (arith, check-room (a .text .now) (length (a .store .now)) (sym (c .before .before .before .check .ensures) ∙ c .before .enum-told .given .1))
+strings-in-requires c κs = alone-room _ _ _ (c .before .before .before .check .ensures) (c .before .enum-told .given .1)
 
 enum-known-x : tie.Need-enum-known-x
 enum-known-x c = search needs
@@ -29,15 +25,12 @@ same-length c = search needs
 returns : tie.Need-returns
 unfolding stringsAlone stringsTold
 returns c =
-    let a = c .before .before .before .before .before .before .before .before .before .args in
-    said-checked length (λ t. t) _ _ (a .text .now) (length (a .store .now)) (sym (c .before .before .before .before .before .before .check .ensures) ∙ c .before .before .before .before .enum-told .given .1) (c .before .before .strings-in .ensures)
+    let at-enum-told = c .before .before .before .before in
+    alone-good _ _ _ (at-enum-told .before .before .check .ensures) length (λ t. t) _ _ (at-enum-told .enum-told .given .1) (c .before .before .strings-in .ensures)
 
 returns-2 : tie.Need-returns-2
 unfolding stringsAlone stringsTold
-returns-2 c =
-    let a = c .before .before .before .before .before .before .args in
-    said-refused length (λ t. t) _ _ _
-    (check-bad (a .text .now) (length (a .store .now)) _ (sym (c .before .before .before .check .ensures) ∙ c .before .x .given .1) Answer.refused _)
+returns-2 c = alone-bad _ _ _ (c .before .before .before .check .ensures) length (λ t. t) _ _ _ (c .before .x .given .1)
 
 pub strings-spec : {M : Type 1} → statement M
 strings-spec =

@@ -1,12 +1,11 @@
 -- `alone::strings_in` meets its contract.
 -- Assumes nothing.
-use mathlib.Core.Path.{_∙_, sym, ap}
-use mathlib.Core.Bool.{false}
 use native.Mathlib.Omega.{arith}
 use lib.ListN.{length}
 use Rattle.lists.specs.ListLaws.{text-length}
 use Rattle.reading.specs.Alone.{stringsTold, refusalNo}
-use Rattle.reading.specs.Checks.{byPick, byList, list-answer, said-refused, said-beyond, said-item}
+use Rattle.reading.specs.Checks.{said-refused, said-beyond, said-item}
+use Rattle.reading.specs.AloneLaws.{item-room, list-bad, list-pick}
 use borrow.Author.Needs.{needs}
 use Rattle.reading.proofs.alone.strings_in.Statement.{statement}
 use Rattle.reading.proofs.alone.strings_in.Tie as tie
@@ -31,18 +30,21 @@ enum-known-picked c = search needs
 
 copy-item-requires : tie.Need-copy-item-requires
 copy-item-requires c κs =
-    let a = c .before .before .before .before .before .before .before .before .before .before .before .before .before .args in
-    (search needs, record { fits = omega (arith, text-length (a .text .now) (c .before .before .before .picked .given .0 .0 .start), c .before .before .before .before .before .before .before .before .before .before .before .before .before .pre) })
+    let at-picked = c .before .before .before in
+    let at-seen = at-picked .before .before .before in
+    let at-classes = at-seen .before .before .before .before in
+    let entry = at-classes .before .before .before in
+    (search needs, item-room (entry .args .text .now) (entry .args .store .now) (at-picked .picked .given .0 .0 .start) (entry .pre))
 
 returns : tie.Need-returns
 unfolding stringsTold refusalNo
-returns c = said-refused length (λ t. t) _ _ 3 (list-answer _ _ _ false ∙ ap (byList _) (sym (c .before .before .parse-list .ensures) ∙ c .enum-told .given .1))
+returns c = said-refused length (λ t. t) _ _ 3 (list-bad _ _ _ _ (c .before .before .parse-list .ensures) (c .enum-told .given .1))
 
 returns-2 : tie.Need-returns-2
 unfolding stringsTold refusalNo
 returns-2 c =
-    said-beyond length (λ t. t) _ _ _
-    (list-answer _ _ _ false ∙ ap (byList _) (sym (c .before .before .before .before .before .parse-list .ensures) ∙ c .before .before .before .seen .given .1) ∙ ap (byPick _ _) (c .enum-told2 .given .1))
+    let at-seen = c .before .before .before in
+    said-beyond length (λ t. t) _ _ _ (list-pick _ _ _ _ (at-seen .before .before .parse-list .ensures) _ _ (at-seen .seen .given .1) (c .enum-told2 .given .1))
 
 same-length : tie.Need-same-length
 same-length c = search needs
@@ -50,12 +52,16 @@ same-length c = search needs
 returns-3 : tie.Need-returns-3
 unfolding stringsTold refusalNo
 returns-3 c =
-    let a = c .before .before .before .before .before .before .before .before .before .before .before .before .before .before .before .before .args in
-    let p = c .before .before .copy-item .ensures in
+    let at-copy-item = c .before .before in
+    let p = at-copy-item .copy-item .ensures in
+    let at-picked = at-copy-item .before .before .before .before in
+    let at-seen = at-picked .before .before .before in
+    let at-classes = at-seen .before .before .before .before in
+    let entry = at-classes .before .before .before in
     said-item length (λ t. t) _ _ _ _
-    (list-answer _ _ _ false ∙ ap (byList _) (sym (c .before .before .before .before .before .before .before .before .before .before .before .parse-list .ensures) ∙ c .before .before .before .before .before .before .before .before .before .seen .given .1) ∙ ap (byPick _ _) (c .before .before .before .before .before .before .picked .given .1))
+    (list-pick _ _ _ _ (at-seen .before .before .parse-list .ensures) _ _ (at-seen .seen .given .1) (at-picked .picked .given .1))
     (omega (arith, p .place))
-    (omega (arith, text-length (a .text .now) (c .before .before .before .before .before .before .picked .given .0 .0 .start), c .before .before .before .before .before .before .before .before .before .before .before .before .before .before .before .before .pre))
+    (omega (arith, text-length (entry .args .text .now) (at-picked .picked .given .0 .0 .start), entry .pre))
     (p .store)
 
 pub strings-in-spec : {M : Type 1} → statement M

@@ -25,10 +25,11 @@ range-again-requires c κs = search needs
 returns : tie.Need-returns
 unfolding restAt isKind
 returns c =
+    let at-skip-spaces = c .before .before .before .before in
     rw (
       c .range-again .ensures,
-      ← c .before .before .before .before .before .skip-byte .ensures,
-      ← c .before .before .before .before .skip-spaces .ensures,
+      ← at-skip-spaces .before .skip-byte .ensures,
+      ← at-skip-spaces .skip-spaces .ensures,
       ← c .before .before .before .text-from .ensures,
       ← c .before .before .skip-byte2 .ensures,
       eq-eqb _ _ (c .before .if1 .taken),

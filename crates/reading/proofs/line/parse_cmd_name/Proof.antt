@@ -42,9 +42,10 @@ add-t11 c = search needs
 returns-3 : tie.Need-returns-3
 unfolding wordAt
 returns-3 c =
+    let at-if1 = c .before .before .before .before in
     rw (
-      ← c .before .before .before .before .before .byte-at .ensures,
-      ne-eqb _ _ (c .before .before .before .before .if1 .left),
+      ← at-if1 .before .byte-at .ensures,
+      ne-eqb _ _ (at-if1 .if1 .left),
       ← c .before .before .before .word-end .ensures,
       eq-eqb _ _ (c .before .before .if2 .taken),
       lt-leb _ _ (c .before .if3 .left),
@@ -54,9 +55,10 @@ returns-3 c =
 returns-4 : tie.Need-returns-4
 unfolding wordAt
 returns-4 c =
+    let at-if1 = c .before .before .before .before in
     rw (
-      ← c .before .before .before .before .before .byte-at .ensures,
-      ne-eqb _ _ (c .before .before .before .before .if1 .left),
+      ← at-if1 .before .byte-at .ensures,
+      ne-eqb _ _ (at-if1 .if1 .left),
       ← c .before .before .before .word-end .ensures,
       eq-eqb _ _ (c .before .before .if2 .taken),
       lt-leb _ _ (c .before .if3 .left),
