@@ -1,27 +1,22 @@
--- `ascii::any_high` meets its contract. The invariant: while every byte passed, the run from `from` on goes on at `from + i`.
+-- `ascii::any_high` meets its contract. The invariant: after i bytes m says whether the run from `from` on ends before the next.
 -- Assumes nothing.
-use mathlib.Core.Path.{_≡_, _∙_, sym, ap}
-use mathlib.Core.Bool.{false}
-use Prim.Native.Nat.{_+_, _-_, _≤_}
+use Prim.Native.Nat.{_-_}
 use native.Mathlib.Omega.{arith}
-use lib.ListN.{getD}
-use Rattle.scan.specs.Scan.{runAt}
+use Rattle.blocks.specs.BlockLaws.{Tested, tested-start, tested-turn, tested-end, tested-through}
 use Rattle.utf8.specs.Utf8.{isAscii}
-use Rattle.scan.specs.RunLaws.{runAt-on}
-use Rattle.blocks.specs.BlockLaws.{neither}
-use borrow.Author.Tests.{lt-ltb, leb-false}
+use Rattle.utf8.specs.Utf8Laws.{high-not-ascii}
 use borrow.Author.Needs.{needs}
 use Rattle.utf8.proofs.ascii.any_high.Statement.{statement}
 use Rattle.utf8.proofs.ascii.any_high.Tie as tie
 
 abbrev Inv-loop : tie.InvT-loop
-Inv-loop s from n m₀ i₀ m i = (i ≤ n) × (m ≡ false → runAt isAscii s from ≡ runAt isAscii s (from + i))
+Inv-loop s from n m₀ i₀ m i = Tested isAscii s from n m i
 
 abbrev μ-loop : tie.MeasureT-loop
 μ-loop s from n m₀ i₀ m i = n - i
 
 loop-holds : tie.Need-loop-holds Inv-loop μ-loop
-loop-holds c = (omega arith, λ h. let e : c .before .args .from ≡ c .before .args .from + 0 = omega arith in ap (runAt isAscii (c .before .args .s .now)) e)
+loop-holds c = let a = c .before .args in tested-start isAscii (a .s .now) (a .from) (a .n)
 
 add-either : tie.Need-add-either Inv-loop μ-loop
 add-either c = omega arith
@@ -39,26 +34,15 @@ loop-less : tie.Need-loop-less Inv-loop μ-loop
 loop-less c = search needs
 
 loop-again : tie.Need-loop-again Inv-loop μ-loop
-unfolding isAscii
 loop-again c =
-    let a = c .before .before .before .before .before .args in
-    let l = c .before .before .before .loop in
-    let b = getD (a .s .now) (a .from + l .i) 0 in
-    let n : a .from + l .i + 1 ≡ a .from + (l .i + 1) = omega arith in (
-      omega arith,
-      λ h.
-          let e = neither _ _ (sym (c .either .ensures) ∙ h) in
-          l .inv .1 (e .0)
-          ∙ runAt-on isAscii (a .s .now) (a .from + l .i) (omega (arith, c .before .before .before .before .before .pre)) (lt-ltb b 0x80 (leb-false 0x80 b (e .1)))
-          ∙ ap (runAt isAscii (a .s .now)) n,
-    )
+    let at-loop = c .before .before .before in
+    let entry = at-loop .before .before in
+    tested-turn isAscii (entry .args .s .now) (entry .args .from) (entry .args .n) _ _ _ _ (entry .pre) (search needs) (at-loop .loop .inv) (high-not-ascii _) (c .either .ensures)
 
 returns : tie.Need-returns Inv-loop μ-loop
 returns c =
     let a = c .before .before .before .args in
-    let l = c .before .loop in
-    let n : a .from + l .i ≡ a .from + a .n = omega (arith, l .inv .0) in
-    λ h. l .inv .1 h ∙ ap (runAt isAscii (a .s .now)) n
+    tested-through isAscii (a .s .now) (a .from) (a .n) _ (tested-end isAscii (a .s .now) (a .from) (a .n) _ _ (search needs) (c .before .loop .inv))
 
 pub any-high-spec : {M : Type 1} → statement M
 any-high-spec =

@@ -57,7 +57,8 @@ loop-less c = search needs
 
 loop-again : tie.Need-loop-again Inv-loop μ-loop
 loop-again c =
-    let l = c .before .before .before .before .before .before in
+    let read = c .before .before .before .before in
+    let l = read .before .before in
     let a = l .before .before .args in (
       omega arith,
       λ h.

@@ -72,7 +72,8 @@ returns-3 c =
     let n = length (a .s .now) in
     λ i p.
     c .last-start3 .ensures i
-    (place-to (a .s .now) i (l .loop .t) (n - 32 - 2) 32 (n - 2) (omega (arith, l .loop .inv .0)) (omega (arith, l .loop .inv .0)) (omega (arith, l .loop .inv .0)) (omega (arith, l .before .before .pre))
+    (place-to (a .s .now) i (l .loop .t) (n - 32 - 2) 32 (n - 2) (omega (arith, l .loop .inv .0)) (omega (arith, l .loop .inv .0))
+    (omega (arith, l .loop .inv .0)) (omega (arith, l .before .before .pre))
     (c .before .before .any-odd2 .ensures (c .before .if2 .left))
     (l .loop .inv .1 i p))
 

@@ -2,7 +2,7 @@
 -- Assumes nothing.
 use mathlib.Core.Path.{_≡_, _∙_, sym}
 use mathlib.Core.Bool.{true}
-use Prim.Native.Nat.{suc, _+_, _-_, _≤_}
+use Prim.Native.Nat.{ℕ, suc, _+_, _-_, _≤_, _<_}
 use native.Mathlib.Omega.{arith}
 use borrow.Author.Tests.{not-true, not-false}
 use Rattle.scan.specs.Bytes.{within}
@@ -26,7 +26,9 @@ returns : tie.Need-returns
 returns c = sequence-one _ _ (c .before .before .before .before .pre) (sym (c .before .followers .ensures) ∙ c .if1 .taken)
 
 returns-2 : tie.Need-returns-2
-returns-2 c = sequence-none _ _ (c .before .before .before .before .before .pre) (sym (c .before .before .followers .ensures) ∙ c .if2 .taken)
+returns-2 c =
+    let at-followers = c .before .before in
+    sequence-none _ _ (at-followers .before .before .before .pre) (sym (at-followers .followers .ensures) ∙ c .if2 .taken)
 
 add-follows : tie.Need-add-follows
 add-follows c = search needs
@@ -40,26 +42,41 @@ highest-requires c κs = search needs
 follows-requires : tie.Need-follows-requires
 follows-requires c κs = search needs
 
+-- how many follow: at most 4; two or three; three
 few : (c : tie.After-followers) → c .followers .result ≤ 4
 few c = rw (c .followers .ensures) (followers-four _)
 
+two-more : (n : ℕ) → n ≤ 4 → (n ≡ 0 → ⊥) → (n ≡ 4 → ⊥) → (n ≡ 1 → ⊥) → (n ≡ suc (suc (n - 2))) × (suc (suc (n - 2)) < 4)
+two-more n h a b d = (omega arith, omega arith)
+
+only-three : (n : ℕ) → n ≤ 4 → (n ≡ 0 → ⊥) → (n ≡ 4 → ⊥) → (n ≡ 1 → ⊥) → (n ≡ 2 → ⊥) → n ≡ 3
+only-three n h a b d e = omega arith
+
 second : (c : tie.After-follows) →
-    let a = c .before .before .before .before .before .before .before .before .args in
+    let at-if1 = c .before .before .before .before in
+    let a = at-if1 .before .before .before .before .args in
     let b = byteAt (a .s .now) (a .i) in
     c .follows .result ≡ within (lowest b) (highest b) (byteAt (a .s .now) (a .i + 1))
 second c = rw (← c .before .before .lowest .ensures, ← c .before .highest .ensures) (c .follows .ensures)
 
 returns-3 : tie.Need-returns-3
 returns-3 c =
-    let n = c .before .before .before .before .before .before .followers .result in
+    let at-if2 = c .before .before .before .before in
+    let at-followers = at-if2 .before .before in
+    let n = at-followers .followers .result in
     let e : n ≡ suc (n - 1) = omega arith in
-    second-off _ _ (c .before .before .before .before .before .before .before .before .before .pre) (n - 1) (sym (c .before .before .before .before .before .before .followers .ensures) ∙ e) (omega (arith, few (c .before .before .before .before .before .before))) (sym (second (c .before)) ∙ not-true _ (c .if3 .taken))
+    second-off _ _ (at-followers .before .before .before .pre) (n - 1) (sym (at-followers .followers .ensures) ∙ e) (omega (arith, few at-followers))
+    (sym (second (c .before)) ∙ not-true _ (c .if3 .taken))
 
 add-t12 : tie.Need-add-t12
 add-t12 c = search needs
 
 returns-4 : tie.Need-returns-4
-returns-4 c = sequence-two _ _ (c .before .before .before .before .before .before .before .before .before .before .pre) (sym (c .before .before .before .before .before .before .before .followers .ensures) ∙ c .if4 .taken) (sym (second (c .before .before)) ∙ not-false _ (c .before .if3 .left))
+returns-4 c =
+    let at-lowest = c .before .before .before .before in
+    let at-followers = at-lowest .before .before .before in
+    sequence-two _ _ (at-followers .before .before .before .pre) (sym (at-followers .followers .ensures) ∙ c .if4 .taken)
+    (sym (second (c .before .before)) ∙ not-false _ (c .before .if3 .left))
 
 add-follows-2 : tie.Need-add-follows-2
 add-follows-2 c = search needs
@@ -68,22 +85,33 @@ follows-requires-2 : tie.Need-follows-requires-2
 follows-requires-2 c κs = search needs
 
 second-on : (c : tie.After-follows2) →
-    let a = c .before .before .before .before .before .before .before .before .before .before .before .args in
+    let at-highest = c .before .before .before .before in
+    let at-followers = at-highest .before .before .before .before in
+    let a = at-followers .before .before .before .args in
     let b = byteAt (a .s .now) (a .i) in
     within (lowest b) (highest b) (byteAt (a .s .now) (a .i + 1)) ≡ true
 second-on c = sym (second (c .before .before .before)) ∙ not-false _ (c .before .before .if3 .left)
 
 returns-5 : tie.Need-returns-5
 returns-5 c =
-    let n = c .before .before .before .before .before .before .before .before .before .followers .result in
-    let e : n ≡ suc (suc (n - 2)) = omega arith in
-    third-off _ _ (c .before .before .before .before .before .before .before .before .before .before .before .before .pre) (n - 2) (sym (c .before .before .before .before .before .before .before .before .before .followers .ensures) ∙ e) (omega (arith, few (c .before .before .before .before .before .before .before .before .before))) (second-on (c .before)) (sym (c .before .follows2 .ensures) ∙ not-true _ (c .if5 .taken))
+    let at-if4 = c .before .before in
+    let at-lowest = at-if4 .before .before .before .before in
+    let at-if2 = at-lowest .before in
+    let at-followers = at-if2 .before .before in
+    let e = two-more _ (few at-followers) (at-if2 .before .if1 .left) (at-if2 .if2 .left) (at-if4 .if4 .left) in
+    third-off _ _ (at-followers .before .before .before .pre) _ (sym (at-followers .followers .ensures) ∙ e .0) (e .1)
+    (second-on (c .before)) (sym (c .before .follows2 .ensures) ∙ not-true _ (c .if5 .taken))
 
 add-t13 : tie.Need-add-t13
 add-t13 c = search needs
 
 returns-6 : tie.Need-returns-6
-returns-6 c = sequence-three _ _ (c .before .before .before .before .before .before .before .before .before .before .before .before .before .pre) (second-on (c .before .before)) (sym (c .before .before .follows2 .ensures) ∙ not-false _ (c .before .if5 .left)) (sym (c .before .before .before .before .before .before .before .before .before .before .followers .ensures) ∙ c .if6 .taken)
+returns-6 c =
+    let at-follows2 = c .before .before in
+    let at-highest = at-follows2 .before .before .before .before in
+    let at-followers = at-highest .before .before .before .before in
+    sequence-three _ _ (at-followers .before .before .before .pre) (second-on at-follows2)
+    (sym (at-follows2 .follows2 .ensures) ∙ not-false _ (c .before .if5 .left)) (sym (at-followers .followers .ensures) ∙ c .if6 .taken)
 
 add-follows-3 : tie.Need-add-follows-3
 add-follows-3 c = search needs
@@ -91,22 +119,47 @@ add-follows-3 c = search needs
 follows-requires-3 : tie.Need-follows-requires-3
 follows-requires-3 c κs = search needs
 
-third-on : (c : tie.After-follows3) → let a = c .before .before .before .before .before .before .before .before .before .before .before .before .before .before .args in within 0x80 0xBF (byteAt (a .s .now) (a .i + 2)) ≡ true
+third-on : (c : tie.After-follows3) →
+    let at-if4 = c .before .before .before .before in
+    let at-lowest = at-if4 .before .before .before .before in
+    let at-followers = at-lowest .before .before .before in
+    let a = at-followers .before .before .before .args in
+    within 0x80 0xBF (byteAt (a .s .now) (a .i + 2)) ≡ true
 third-on c = sym (c .before .before .before .follows2 .ensures) ∙ not-false _ (c .before .before .if5 .left)
 
-three : (c : tie.After-follows3) → let a = c .before .before .before .before .before .before .before .before .before .before .before .before .before .before .args in followers (byteAt (a .s .now) (a .i)) ≡ 3
+three : (c : tie.After-follows3) →
+    let at-if4 = c .before .before .before .before in
+    let at-lowest = at-if4 .before .before .before .before in
+    let at-followers = at-lowest .before .before .before in
+    let a = at-followers .before .before .before .args in
+    followers (byteAt (a .s .now) (a .i)) ≡ 3
 three c =
-    let n : c .before .before .before .before .before .before .before .before .before .before .before .followers .result ≡ 3 = omega (arith, few (c .before .before .before .before .before .before .before .before .before .before .before)) in
-    sym (c .before .before .before .before .before .before .before .before .before .before .before .followers .ensures) ∙ n
+    let at-if6 = c .before in
+    let at-if4 = at-if6 .before .before .before in
+    let at-lowest = at-if4 .before .before .before .before in
+    let at-if2 = at-lowest .before in
+    let at-followers = at-if2 .before .before in
+    sym (at-followers .followers .ensures)
+    ∙ only-three _ (few at-followers) (at-if2 .before .if1 .left) (at-if2 .if2 .left) (at-if4 .if4 .left) (at-if6 .if6 .left)
 
 returns-7 : tie.Need-returns-7
-returns-7 c = fourth-off _ _ (c .before .before .before .before .before .before .before .before .before .before .before .before .before .before .before .pre) (second-on (c .before .before .before .before)) (third-on (c .before)) (three (c .before)) (sym (c .before .follows3 .ensures) ∙ not-true _ (c .if7 .taken))
+returns-7 c =
+    let at-follows2 = c .before .before .before .before in
+    let at-highest = at-follows2 .before .before .before .before in
+    let at-followers = at-highest .before .before .before .before in
+    fourth-off _ _ (at-followers .before .before .before .pre) (second-on at-follows2) (third-on (c .before)) (three (c .before))
+    (sym (c .before .follows3 .ensures) ∙ not-true _ (c .if7 .taken))
 
 add-t9 : tie.Need-add-t9
 add-t9 c = search needs
 
 returns-8 : tie.Need-returns-8
-returns-8 c = sequence-four _ _ (c .before .before .before .before .before .before .before .before .before .before .before .before .before .before .before .pre) (second-on (c .before .before .before .before)) (third-on (c .before)) (three (c .before)) (sym (c .before .follows3 .ensures) ∙ not-false _ (c .if7 .left))
+returns-8 c =
+    let at-follows2 = c .before .before .before .before in
+    let at-highest = at-follows2 .before .before .before .before in
+    let at-followers = at-highest .before .before .before .before in
+    sequence-four _ _ (at-followers .before .before .before .pre) (second-on at-follows2) (third-on (c .before)) (three (c .before))
+    (sym (c .before .follows3 .ensures) ∙ not-false _ (c .if7 .left))
 
 pub any-sequence-spec : {M : Type 1} → statement M
 any-sequence-spec =

@@ -39,7 +39,9 @@ enum-told : tie.Need-enum-told Inv-loop μ-loop
 enum-told c = search needs
 
 returns : tie.Need-returns Inv-loop μ-loop
-returns c = sym (c .before .before .before .before .before .loop .inv .0 ∙ rw (c .enum-told .given .1) at (c .before .before .sequences .ensures))
+returns c =
+    let at-sequences = c .before .before in
+    sym (at-sequences .before .before .before .loop .inv .0 ∙ rw (c .enum-told .given .1) at (at-sequences .sequences .ensures))
 
 characters-end-requires : tie.Need-characters-end-requires Inv-loop μ-loop
 characters-end-requires c κs = search needs
@@ -49,8 +51,9 @@ loop-less c = let e = rw (c .before .before .j .given .1) at (c .before .before 
 
 loop-again : tie.Need-loop-again Inv-loop μ-loop
 loop-again c =
-    let e = rw (c .before .before .j .given .1) at (c .before .before .before .before .sequences .ensures) in
-    (c .before .before .before .before .before .before .before .loop .inv .0 ∙ e .0 ∙ c .characters-end .ensures .0, omega arith)
+    let at-sequences = c .before .before .before .before in
+    let e = rw (c .before .before .j .given .1) at (at-sequences .sequences .ensures) in
+    (at-sequences .before .before .before .loop .inv .0 ∙ e .0 ∙ c .characters-end .ensures .0, omega arith)
 
 returns-2 : tie.Need-returns-2 Inv-loop μ-loop
 returns-2 c = sym (c .before .loop .inv .0 ∙ utf8-end _ _ _ (search needs))

@@ -30,8 +30,9 @@ within-requires-3 c κs = search needs
 returns-3 : tie.Need-returns-3
 unfolding followers
 returns-3 c =
+    let at-if1 = c .before .before .before .before in
     simp (
-      sym (c .before .before .before .before .before .within .ensures) ∙ c .before .before .before .before .if1 .left,
+      sym (at-if1 .before .within .ensures) ∙ at-if1 .if1 .left,
       sym (c .before .before .before .within2 .ensures) ∙ c .before .before .if2 .left,
       sym (c .before .within3 .ensures) ∙ c .if3 .taken,
     )
@@ -42,9 +43,10 @@ within-requires-4 c κs = search needs
 returns-4 : tie.Need-returns-4
 unfolding followers
 returns-4 c =
+    let at-if2 = c .before .before .before .before in
     simp (
-      sym (c .before .before .before .before .before .before .before .within .ensures) ∙ c .before .before .before .before .before .before .if1 .left,
-      sym (c .before .before .before .before .before .within2 .ensures) ∙ c .before .before .before .before .if2 .left,
+      sym (at-if2 .before .before .before .within .ensures) ∙ at-if2 .before .before .if1 .left,
+      sym (at-if2 .before .within2 .ensures) ∙ at-if2 .if2 .left,
       sym (c .before .before .before .within3 .ensures) ∙ c .before .before .if3 .left,
       sym (c .before .within4 .ensures) ∙ c .if4 .taken,
     )
@@ -52,9 +54,10 @@ returns-4 c =
 returns-5 : tie.Need-returns-5
 unfolding followers
 returns-5 c =
+    let at-if2 = c .before .before .before .before in
     simp (
-      sym (c .before .before .before .before .before .before .before .within .ensures) ∙ c .before .before .before .before .before .before .if1 .left,
-      sym (c .before .before .before .before .before .within2 .ensures) ∙ c .before .before .before .before .if2 .left,
+      sym (at-if2 .before .before .before .within .ensures) ∙ at-if2 .before .before .if1 .left,
+      sym (at-if2 .before .within2 .ensures) ∙ at-if2 .if2 .left,
       sym (c .before .before .before .within3 .ensures) ∙ c .before .before .if3 .left,
       sym (c .before .within4 .ensures) ∙ c .if4 .left,
     )

@@ -38,7 +38,8 @@ by-blocks-requires c κs = search needs
 
 returns-2 : tie.Need-returns-2
 returns-2 c =
-    let s = c .before .before .before .before .before .before .args .s .now in
+    let at-any-high-before = c .before .before .before .before in
+    let s = at-any-high-before .before .before .args .s .now in
     c .by-blocks .ensures ∙ ap isUtf8 (take-all (length s - 0) s (omega arith))
 
 sub-by-blocks-2 : tie.Need-sub-by-blocks-2
@@ -55,7 +56,8 @@ by-blocks-requires-2 c κs = search needs
 
 returns-3 : tie.Need-returns-3
 returns-3 c =
-    let s = c .before .before .before .before .before .before .args .s .now in
+    let at-any-high-before = c .before .before .before .before in
+    let s = at-any-high-before .before .before .args .s .now in
     c .by-blocks2 .ensures ∙ ap isUtf8 (take-all (length s - 0) s (omega arith))
 
 pub is-utf8-spec : {M : Type 1} → statement M

@@ -28,10 +28,16 @@ add-t11 : tie.Need-add-t11
 add-t11 c = search needs
 
 returns-2 : tie.Need-returns-2
-returns-2 c = pair-on _ _ (c .before .before .before .before .before .before .before .pre) (sym (c .before .before .before .within .ensures) ∙ c .before .before .if2 .taken) (sym (c .before .follows .ensures) ∙ c .if3 .taken)
+returns-2 c =
+    let at-within = c .before .before .before in
+    pair-on _ _ (at-within .before .before .before .before .pre) (sym (at-within .within .ensures) ∙ c .before .before .if2 .taken)
+    (sym (c .before .follows .ensures) ∙ c .if3 .taken)
 
 returns-3 : tie.Need-returns-3
-returns-3 c = pair-off _ _ (c .before .before .before .before .before .before .before .pre) (sym (c .before .before .before .within .ensures) ∙ c .before .before .if2 .taken) (sym (c .before .follows .ensures) ∙ c .if3 .left)
+returns-3 c =
+    let at-within = c .before .before .before in
+    pair-off _ _ (at-within .before .before .before .before .pre) (sym (at-within .within .ensures) ∙ c .before .before .if2 .taken)
+    (sym (c .before .follows .ensures) ∙ c .if3 .left)
 
 any-sequence-requires : tie.Need-any-sequence-requires
 any-sequence-requires c κs = search needs

@@ -35,8 +35,9 @@ loop-less c = let e = rw (c .before .j .given .1) at (c .before .before .before 
 
 loop-again : tie.Need-loop-again Inv-loop μ-loop
 loop-again c =
-    let l = c .before .before .before .before .before .loop .inv in
-    let e = rw (c .before .j .given .1) at (c .before .before .before .sequence .ensures) in
+    let at-sequence = c .before .before .before in
+    let l = at-sequence .before .before .loop .inv in
+    let e = rw (c .before .j .given .1) at (at-sequence .sequence .ensures) in
     (omega (arith, l .0, e .1), e .2, l .2 ∙ e .0)
 
 returns-2 : tie.Need-returns-2 Inv-loop μ-loop
