@@ -22,8 +22,9 @@ text-end-requires c κs = search needs
 
 item-of-requires : tie.Need-item-of-requires
 item-of-requires c κs =
-    let h = byte-inside (c .before .before .before .before .args .s .now) (c .before .before .before .before .args .at) 0x22 (sym (c .before .before .byte-at .ensures) ∙ c .before .if1 .taken) (omega arith) in
-    room true (c .before .before .before .before .args .s .now) _ _ (sym (c .text-end .ensures)) (omega arith)
+    let entry = c .before .before .before .before in
+    let h = byte-inside (entry .args .s .now) (entry .args .at) 0x22 (sym (c .before .before .byte-at .ensures) ∙ c .before .if1 .taken) (omega arith) in
+    room true (entry .args .s .now) _ _ (sym (c .text-end .ensures)) (omega arith)
 
 returns : tie.Need-returns
 unfolding itemAt

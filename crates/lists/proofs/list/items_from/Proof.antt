@@ -38,16 +38,21 @@ enum-told c = search needs
 returns : tie.Need-returns Inv-loop μ-loop
 unfolding listFrom
 returns c =
-    let a = c .before .before .before .before .before .args in
-    let l = c .before .before .before .loop in
-    sym (l .inv .1 ∙ ap (listFrom (a .s .now) (a .flags) (l .n) (l .keyless) (l .picked)) (items-bad (a .s .now) (l .i) (sym (c .before .before .item-end .ensures) ∙ c .enum-told .given .1)))
+    let at-loop = c .before .before .before in
+    let a = at-loop .before .before .args in
+    let l = at-loop .loop in
+    sym (l .inv .1 ∙ ap (listFrom (a .s .now) (a .flags) (l .n) (l .keyless) (l .picked))
+    (items-bad (a .s .now) (l .i) (sym (c .before .before .item-end .ensures) ∙ c .enum-told .given .1)))
 
 ended : (c : tie.After-known-told Inv-loop μ-loop) →
-    itemAt (c .before .before .before .before .before .before .args .s .now) (c .before .before .before .before .loop .i) ≡ TextEnd.End (c .before .j .given .0 .0)
+    let at-loop = c .before .before .before .before in
+    itemAt (at-loop .before .before .args .s .now) (at-loop .loop .i) ≡ TextEnd.End (c .before .j .given .0 .0)
 ended c = sym (c .before .before .before .item-end .ensures) ∙ c .before .j .given .1
 
 add-n : tie.Need-add-n Inv-loop μ-loop
-add-n c = omega (arith, item-in (c .before .before .before .before .before .before .args .s .now) _ _ (sym (c .before .before .before .item-end .ensures) ∙ c .before .j .given .1))
+add-n c =
+    let at-item-end = c .before .before .before in
+    omega (arith, item-in (at-item-end .before .before .before .args .s .now) _ _ (sym (at-item-end .item-end .ensures) ∙ c .before .j .given .1))
 
 keyless-by-requires : tie.Need-keyless-by-requires Inv-loop μ-loop
 keyless-by-requires c κs = search needs
@@ -60,40 +65,59 @@ skip-spaces-requires c κs = search needs
 
 returns-2 : tie.Need-returns-2 Inv-loop μ-loop
 returns-2 c =
-    let a = c .before .before .before .before .before .before .before .before .before .before .args in
-    let l = c .before .before .before .before .before .before .before .before .loop in
+    let at-known-told = c .before .before .before .before in
+    let at-loop = at-known-told .before .before .before .before in
+    let a = at-loop .before .before .args in
+    let l = at-loop .loop in
     sym
     (l .inv .1
-    ∙ ap (listFrom (a .s .now) (a .flags) (l .n) (l .keyless) (l .picked)) (items-last (a .s .now) (l .i) _ (ended (c .before .before .before .before)) (sym (c .before .skip-spaces .ensures) ∙ c .if1 .taken))
+    ∙ ap (listFrom (a .s .now) (a .flags) (l .n) (l .keyless) (l .picked))
+    (items-last (a .s .now) (l .i) _ (ended at-known-told) (sym (c .before .skip-spaces .ensures) ∙ c .if1 .taken))
     ∙ list-last (a .s .now) (a .flags) (l .n) (l .keyless) (l .picked) _
     ∙ rw (← c .before .before .before .keyless-by .ensures, ← c .before .before .passed .ensures))
 
 returns-3 : tie.Need-returns-3 Inv-loop μ-loop
 unfolding listFrom
 returns-3 c =
-    let a = c .before .before .before .before .before .before .before .before .before .before .before .args in
-    let l = c .before .before .before .before .before .before .before .before .before .loop in
-    let k = c .before .before .skip-spaces .ensures in
+    let at-skip-spaces = c .before .before in
+    let at-known-told = at-skip-spaces .before .before .before in
+    let at-loop = at-known-told .before .before .before .before in
+    let a = at-loop .before .before .args in
+    let l = at-loop .loop in
+    let k = at-skip-spaces .skip-spaces .ensures in
     sym
     (l .inv .1
-    ∙ ap (listFrom (a .s .now) (a .flags) (l .n) (l .keyless) (l .picked)) (items-left (a .s .now) (l .i) _ (ended (c .before .before .before .before .before)) (λ e. c .before .if1 .left (k ∙ e)) (sym k ∙ c .if2 .taken)))
+    ∙ ap (listFrom (a .s .now) (a .flags) (l .n) (l .keyless) (l .picked))
+    (items-left (a .s .now) (l .i) _ (ended at-known-told) (λ e. c .before .if1 .left (k ∙ e)) (sym k ∙ c .if2 .taken)))
 
 loop-less : tie.Need-loop-less Inv-loop μ-loop
 loop-less c =
-    let a = c .before .before .before .before .before .before .before .before .before .before .before .args in
-    let l = c .before .before .before .before .before .before .before .before .before .loop in
-    omega (arith, item-in (a .s .now) _ _ (ended (c .before .before .before .before .before)), c .before .before .skip-spaces .ensures, runAt-le isSpace (a .s .now) (c .before .before .before .before .before .before .j .given .0 .0))
+    let at-skip-spaces = c .before .before in
+    let at-j = at-skip-spaces .before .before .before .before in
+    let at-loop = at-j .before .before .before in
+    let a = at-loop .before .before .args in
+    let l = at-loop .loop in
+    omega (
+      arith,
+      item-in (a .s .now) _ _ (ended (at-skip-spaces .before .before .before)),
+      at-skip-spaces .skip-spaces .ensures,
+      runAt-le isSpace (a .s .now) (at-j .j .given .0 .0),
+    )
 
 loop-again : tie.Need-loop-again Inv-loop μ-loop
 loop-again c =
-    let a = c .before .before .before .before .before .before .before .before .before .before .before .args in
-    let l = c .before .before .before .before .before .before .before .before .before .loop in
+    let at-keyless-by = c .before .before .before .before in
+    let at-known-told = at-keyless-by .before in
+    let at-loop = at-known-told .before .before .before .before in
+    let a = at-loop .before .before .args in
+    let l = at-loop .loop in
     let k = c .before .before .skip-spaces .ensures in (
-      omega (arith, item-in (a .s .now) _ _ (ended (c .before .before .before .before .before)), k, runAt-le isSpace (a .s .now) (c .before .before .before .before .before .before .j .given .0 .0), l .inv .0),
+      omega (arith, item-in (a .s .now) _ _ (ended at-known-told), k, runAt-le isSpace (a .s .now) (at-known-told .before .j .given .0 .0), l .inv .0),
       l .inv .1
-          ∙ ap (listFrom (a .s .now) (a .flags) (l .n) (l .keyless) (l .picked)) (items-on (a .s .now) (l .i) _ (ended (c .before .before .before .before .before)) (λ e. c .before .if1 .left (k ∙ e)) (λ e. c .if2 .left (k ∙ e)))
+          ∙ ap (listFrom (a .s .now) (a .flags) (l .n) (l .keyless) (l .picked))
+          (items-on (a .s .now) (l .i) _ (ended at-known-told) (λ e. c .before .if1 .left (k ∙ e)) (λ e. c .if2 .left (k ∙ e)))
           ∙ list-more (a .s .now) (a .flags) (l .n) (l .keyless) (l .picked) _ _
-          ∙ rw (← c .before .before .before .before .keyless-by .ensures, ← c .before .before .before .passed .ensures, ← k),
+          ∙ rw (← at-keyless-by .keyless-by .ensures, ← c .before .before .before .passed .ensures, ← k),
     )
 
 pub items-from-spec : {M : Type 1} → statement M

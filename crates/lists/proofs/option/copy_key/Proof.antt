@@ -41,32 +41,40 @@ returns c =
     (writing-end (key-none e) (c .before .before .before .loop .inv .0), after-none e ∙ sym (c .before .before .before .loop .inv .1))
 
 same-length-2 : tie.Need-same-length-2 Inv-loop μ-loop
-same-length-2 c = c .before .before .before .before .before .loop .inv .0 .size
+same-length-2 c =
+    let at-emit-at = c .before .before .before .before in
+    at-emit-at .before .loop .inv .0 .size
 
 returns-2 : tie.Need-returns-2 Inv-loop μ-loop
 returns-2 c =
-    let e = (rw (c .before .before .b .given .1) at (c .before .before .before .before .emit-at .ensures)) .0 in
-    (writing-end (key-cut e (c .if1 .taken)) (c .before .before .before .before .before .loop .inv .0), after-cut e (c .if1 .taken) ∙ sym (c .before .before .before .before .before .loop .inv .1))
+    let at-emit-at = c .before .before .before .before in
+    let at-loop = at-emit-at .before in
+    let e = (rw (c .before .before .b .given .1) at (at-emit-at .emit-at .ensures)) .0 in
+    (writing-end (key-cut e (c .if1 .taken)) (at-loop .loop .inv .0), after-cut e (c .if1 .taken) ∙ sym (at-loop .loop .inv .1))
 
 slice-write-store : tie.Need-slice-write-store Inv-loop μ-loop
 slice-write-store c =
-    let e = (rw (c .before .before .b .given .1) at (c .before .before .before .before .emit-at .ensures)) .0 in
-    let w = c .before .before .before .before .before .loop .inv .0 in
-    omega (arith, w .count, w .size, c .before .before .before .before .before .before .before .before .pre .1 .fits, ap length (key-more e (c .if1 .left)))
+    let at-emit-at = c .before .before .before .before in
+    let e = (rw (c .before .before .b .given .1) at (at-emit-at .emit-at .ensures)) .0 in
+    let w = at-emit-at .before .loop .inv .0 in
+    omega (arith, w .count, w .size, at-emit-at .before .before .before .before .pre .1 .fits, ap length (key-more e (c .if1 .left)))
 
 add-n : tie.Need-add-n Inv-loop μ-loop
 add-n c =
-    let e = (rw (c .before .before .b .given .1) at (c .before .before .before .before .emit-at .ensures)) .0 in
-    let w = c .before .before .before .before .before .loop .inv .0 in
-    omega (arith, w .count, w .size, c .before .before .before .before .before .before .before .before .pre .1 .fits, ap length (key-more e (c .if1 .left)))
+    let at-emit-at = c .before .before .before .before in
+    let e = (rw (c .before .before .b .given .1) at (at-emit-at .emit-at .ensures)) .0 in
+    let w = at-emit-at .before .loop .inv .0 in
+    omega (arith, w .count, w .size, at-emit-at .before .before .before .before .pre .1 .fits, ap length (key-more e (c .if1 .left)))
 
 loop-less : tie.Need-loop-less Inv-loop μ-loop
 loop-less c = let e = rw (c .before .before .b .given .1) at (c .before .before .before .before .emit-at .ensures) in omega (arith, e .1, e .2)
 
 loop-again : tie.Need-loop-again Inv-loop μ-loop
 loop-again c =
-    let e = (rw (c .before .before .b .given .1) at (c .before .before .before .before .emit-at .ensures)) .0 in
-    (writing-byte _ _ (key-more e (c .if1 .left)) (c .before .before .before .before .before .loop .inv .0), c .before .before .before .before .before .loop .inv .1 ∙ after-more e (c .if1 .left))
+    let at-emit-at = c .before .before .before .before in
+    let at-loop = at-emit-at .before in
+    let e = (rw (c .before .before .b .given .1) at (at-emit-at .emit-at .ensures)) .0 in
+    (writing-byte _ _ (key-more e (c .if1 .left)) (at-loop .loop .inv .0), at-loop .loop .inv .1 ∙ after-more e (c .if1 .left))
 
 pub copy-key-spec : {M : Type 1} → statement M
 copy-key-spec =

@@ -22,21 +22,29 @@ enum-known-c : tie.Need-enum-known-c
 enum-known-c c = search needs
 
 add-t9 : tie.Need-add-t9
-add-t9 c = let e = sym (c .before .before .before .escape-of .ensures ∙ ap (escapeOf (c .before .before .before .before .before .before .args .quoted)) (c .before .before .before .before .byte-at .ensures)) ∙ c .before .c .given .1 in omega (arith, escape-inside _ (c .before .before .before .before .before .before .args .s .now) _ _ e)
+add-t9 c =
+    let at-byte-at = c .before .before .before .before in
+    let entry = at-byte-at .before .before in
+    let e = sym (c .before .before .before .escape-of .ensures ∙ ap (escapeOf (entry .args .quoted)) (at-byte-at .byte-at .ensures)) ∙ c .before .c .given .1 in
+    omega (arith, escape-inside _ (entry .args .s .now) _ _ e)
 
 enum-told : tie.Need-enum-told
 enum-told c = search needs
 
 returns : tie.Need-returns
 returns c =
-    let e = sym (c .before .before .before .escape-of .ensures ∙ ap (escapeOf (c .before .before .before .before .before .before .args .quoted)) (c .before .before .before .before .byte-at .ensures)) ∙ c .before .c .given .1 in
-    let h = escape-inside _ (c .before .before .before .before .before .before .args .s .now) _ _ e in
-    (bytes-escape _ _ _ (c .before .before .before .before .before .before .pre) _ e, omega arith, omega arith)
+    let at-byte-at = c .before .before .before .before in
+    let entry = at-byte-at .before .before in
+    let e = sym (c .before .before .before .escape-of .ensures ∙ ap (escapeOf (entry .args .quoted)) (at-byte-at .byte-at .ensures)) ∙ c .before .c .given .1 in
+    let h = escape-inside _ (entry .args .s .now) _ _ e in
+    (bytes-escape _ _ _ (entry .pre) _ e, omega arith, omega arith)
 
 returns-2 : tie.Need-returns-2
 returns-2 c =
-    let e = sym (c .before .before .escape-of .ensures ∙ ap (escapeOf (c .before .before .before .before .before .args .quoted)) (c .before .before .before .byte-at .ensures)) ∙ c .enum-told .given .1 in
-    bytes-bad _ _ _ (c .before .before .before .before .before .pre) e
+    let at-byte-at = c .before .before .before in
+    let entry = at-byte-at .before .before in
+    let e = sym (c .before .before .escape-of .ensures ∙ ap (escapeOf (entry .args .quoted)) (at-byte-at .byte-at .ensures)) ∙ c .enum-told .given .1 in
+    bytes-bad _ _ _ (entry .pre) e
 
 pub emit-escape-spec : {M : Type 1} → statement M
 emit-escape-spec =

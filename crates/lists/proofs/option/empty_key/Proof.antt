@@ -23,7 +23,10 @@ enum-told : tie.Need-enum-told
 enum-told c = search needs
 
 returns : tie.Need-returns
-returns c = c .key-is-empty .ensures ∙ sym (keyless-flag (rw (c .before .before .k .given .1) at (c .before .before .before .before .flag-start .ensures))) ∙ ap keyless (c .before .before .before .before .before .item-text .ensures .0)
+returns c =
+    let at-flag-start = c .before .before .before .before in
+    c .key-is-empty .ensures ∙ sym (keyless-flag (rw (c .before .before .k .given .1) at (at-flag-start .flag-start .ensures)))
+    ∙ ap keyless (at-flag-start .before .item-text .ensures .0)
 
 returns-2 : tie.Need-returns-2
 returns-2 c = sym (ap keyless (sym (c .before .before .before .item-text .ensures .0)) ∙ keyless-plain _ (rw (c .enum-told .given .1) at (c .before .before .flag-start .ensures)))

@@ -30,13 +30,24 @@ enum-told-2 : tie.Need-enum-told-2
 enum-told-2 c = search needs
 
 returns-3 : tie.Need-returns-3
-returns-3 c = plus-one ((rw (c .before .before .before .before .before .b .given .1) at (c .before .before .before .before .before .before .before .emit-at .ensures)) .0) (rw (c .enum-told2 .given .1) at (c .before .before .emit-at2 .ensures))
+returns-3 c =
+    let at-emit-at2 = c .before .before in
+    let at-b = at-emit-at2 .before .before .before in
+    plus-one ((rw (at-b .b .given .1) at (at-b .before .before .emit-at .ensures)) .0) (rw (c .enum-told2 .given .1) at (at-emit-at2 .emit-at2 .ensures))
 
 returns-4 : tie.Need-returns-4
-returns-4 c = plus-second ((rw (c .before .before .before .before .before .before .before .b .given .1) at (c .before .before .before .before .before .before .before .before .before .emit-at .ensures)) .0) ((rw (c .before .before .d .given .1) at (c .before .before .before .before .emit-at2 .ensures)) .0) (c .if2 .taken)
+returns-4 c =
+    let at-emit-at2 = c .before .before .before .before in
+    let at-b = at-emit-at2 .before .before .before in
+    plus-second ((rw (at-b .b .given .1) at (at-b .before .before .emit-at .ensures)) .0)
+    ((rw (c .before .before .d .given .1) at (at-emit-at2 .emit-at2 .ensures)) .0) (c .if2 .taken)
 
 returns-5 : tie.Need-returns-5
-returns-5 c = plus-both ((rw (c .before .before .before .before .before .before .before .b .given .1) at (c .before .before .before .before .before .before .before .before .before .emit-at .ensures)) .0) (c .before .before .before .before .before .if1 .left) ((rw (c .before .before .d .given .1) at (c .before .before .before .before .emit-at2 .ensures)) .0) (c .if2 .left)
+returns-5 c =
+    let at-emit-at2 = c .before .before .before .before in
+    let at-b = at-emit-at2 .before .before .before in
+    plus-both ((rw (at-b .b .given .1) at (at-b .before .before .emit-at .ensures)) .0) (at-emit-at2 .before .if1 .left)
+    ((rw (c .before .before .d .given .1) at (at-emit-at2 .emit-at2 .ensures)) .0) (c .if2 .left)
 
 pub flag-start-spec : {M : Type 1} → statement M
 flag-start-spec =

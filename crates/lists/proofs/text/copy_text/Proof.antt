@@ -34,55 +34,84 @@ part-requires c κs = search needs
 
 -- behind the escapes: what is left, which a run starts
 escapes : (c : tie.After-put-escapes Inv-loop μ-loop) →
-    let a = c .before .before .before .before .before .args in
+    let at-loop = c .before .before in
+    let a = at-loop .before .before .before .args in
     let q = bytesAt (a .quoted) (a .s .now) in
     Writing (a .store .now) (a .to) (q (a .at)) (c .put-escapes .last .1 .1 .1 .0) (c .put-escapes .result .n) (q (c .put-escapes .result .at))
 escapes c = writing-then (c .put-escapes .ensures .0) (c .before .before .loop .inv)
 
 runs : (c : tie.After-own-end Inv-loop μ-loop) →
-    let a = c .before .before .before .before .before .before .before .before .args in
+    let at-lent = c .before .before .before .before in
+    let a = at-lent .before .before .before .before .args in
     let i = c .before .before .before .put-escapes .result .at in
     bytesAt (a .quoted) (a .s .now) i ≡ partOf (a .s .now) i (c .own-end .result) ++ bytesAt (a .quoted) (a .s .now) (c .own-end .result)
 runs c = rw (c .own-end .ensures) (bytes-run _ _ _)
 
 put-bytes-requires : tie.Need-put-bytes-requires Inv-loop μ-loop
-put-bytes-requires c κs = rw (c .part .ensures) (writing-room _ _ (c .before .before .before .before .before .before .before .before .before .before .pre .1) (runs (c .before .before)) (escapes (c .before .before .before .before .before)))
+put-bytes-requires c κs =
+    let at-own-end = c .before .before in
+    let at-lent = at-own-end .before .before .before .before in
+    rw (c .part .ensures)
+    (writing-room _ _ (at-lent .before .before .before .before .pre .1) (runs at-own-end) (escapes (at-own-end .before .before .before)))
 
 byte-at-requires : tie.Need-byte-at-requires Inv-loop μ-loop
 byte-at-requires c κs = search needs
 
 written : (c : tie.After-put-bytes Inv-loop μ-loop) →
-    let a = c .before .before .before .before .before .before .before .before .before .before .before .args in
+    let at-own-end = c .before .before .before in
+    let at-lent = at-own-end .before .before .before .before in
+    let a = at-lent .before .before .before .before .args in
     let q = bytesAt (a .quoted) (a .s .now) in
-    Writing (a .store .now) (a .to) (q (a .at)) (c .put-bytes .last .0) (c .put-bytes .result) (q (c .before .before .before .own-end .result))
-written c = writing-put _ (rw (c .before .part .ensures) at (c .put-bytes .ensures)) (runs (c .before .before .before)) (escapes (c .before .before .before .before .before .before))
+    Writing (a .store .now) (a .to) (q (a .at)) (c .put-bytes .last .0) (c .put-bytes .result) (q (at-own-end .own-end .result))
+written c =
+    let at-own-end = c .before .before .before in
+    writing-put _ (rw (c .before .part .ensures) at (c .put-bytes .ensures)) (runs at-own-end) (escapes (at-own-end .before .before .before))
 
 same-length : tie.Need-same-length Inv-loop μ-loop
 same-length c = written (c .before .before .before .before) .size
 
 returns : tie.Need-returns Inv-loop μ-loop
 returns c =
-    let a = c .before .before .before .before .before .before .before .before .before .before .before .before .before .before .before .args in
-    let n : Stands (a .quoted) (a .s .now) (c .before .before .before .before .before .before .before .own-end .result) = rw (c .before .before .before .before .before .before .before .own-end .ensures) (run-stands (a .quoted) (a .s .now) (c .before .before .before .before .before .before .before .before .before .before .put-escapes .result .at)) in
-    writing-end (bytes-stop (a .quoted) (a .s .now) (c .before .before .before .before .before .before .before .own-end .result) n (λ e. c .if1 .taken (c .before .byte-at .ensures ∙ e))) (written (c .before .before .before .before))
+    let at-put-bytes = c .before .before .before .before in
+    let at-own-end = at-put-bytes .before .before .before in
+    let at-lent = at-own-end .before .before .before .before in
+    let a = at-lent .before .before .before .before .args in
+    let n : Stands (a .quoted) (a .s .now) (at-own-end .own-end .result) =
+    rw (at-own-end .own-end .ensures) (run-stands (a .quoted) (a .s .now) (at-own-end .before .before .before .put-escapes .result .at)) in
+    writing-end (bytes-stop (a .quoted) (a .s .now) (at-own-end .own-end .result) n (λ e. c .if1 .taken (c .before .byte-at .ensures ∙ e)))
+    (written at-put-bytes)
 
 same-length-2 : tie.Need-same-length-2 Inv-loop μ-loop
-same-length-2 c = written (c .before .before .before .before .before .before) .size
+same-length-2 c =
+    let at-byte-at = c .before .before .before in
+    written (at-byte-at .before .before .before) .size
 
 returns-2 : tie.Need-returns-2 Inv-loop μ-loop
 returns-2 c =
-    let b = sym (c .before .before .before .byte-at .ensures) ∙ c .before .before .if1 .left in
-    writing-end (bytes-stuck (c .before .before .before .before .before .before .before .before .before .before .before .before .before .before .before .before .before .args .quoted) (c .before .before .before .before .before .before .before .before .before .before .before .before .before .before .before .before .before .args .s .now) _ _ (c .if2 .taken) (c .before .before .before .before .before .before .before .before .before .before .before .before .put-escapes .ensures .1 .1) b) (written (c .before .before .before .before .before .before))
+    let at-byte-at = c .before .before .before in
+    let at-put-bytes = at-byte-at .before .before .before in
+    let at-own-end = at-put-bytes .before .before .before in
+    let at-lent = at-own-end .before .before .before .before in
+    let entry = at-lent .before .before .before .before in
+    let b = sym (at-byte-at .byte-at .ensures) ∙ c .before .before .if1 .left in
+    writing-end (bytes-stuck (entry .args .quoted) (entry .args .s .now) _ _ (c .if2 .taken) (at-own-end .before .before .before .put-escapes .ensures .1 .1) b)
+    (written at-put-bytes)
 
 loop-less : tie.Need-loop-less Inv-loop μ-loop
 loop-less c =
-    let a = c .before .before .before .before .before .before .before .before .before .before .before .before .before .before .before .before .before .args in
-    let b = byte-inside (a .s .now) (c .before .before .before .before .before .before .before .before .before .own-end .result) 0x5C (sym (c .before .before .before .byte-at .ensures) ∙ c .before .before .if1 .left) (omega arith) in
-    let e = c .before .before .before .before .before .before .before .before .before .before .before .before .put-escapes in
-    omega (arith, b, c .if2 .left, e .ensures .1 .0, c .before .before .before .before .before .before .before .before .before .own-end .ensures, runAt-le (own (a .quoted)) (a .s .now) (e .result .at))
+    let at-byte-at = c .before .before .before in
+    let at-part = at-byte-at .before .before .before .before in
+    let at-own-end = at-part .before .before in
+    let at-lent = at-own-end .before .before .before .before in
+    let a = at-lent .before .before .before .before .args in
+    let b = byte-inside (a .s .now) (at-own-end .own-end .result) 0x5C (sym (at-byte-at .byte-at .ensures) ∙ c .before .before .if1 .left) (omega arith) in
+    let e = at-own-end .before .before .before .put-escapes in
+    omega (arith, b, c .if2 .left, e .ensures .1 .0, at-own-end .own-end .ensures, runAt-le (own (a .quoted)) (a .s .now) (e .result .at))
 
 loop-again : tie.Need-loop-again Inv-loop μ-loop
-loop-again c = written (c .before .before .before .before .before .before)
+loop-again c =
+    let at-byte-at = c .before .before .before in
+    written (at-byte-at .before .before .before)
 
 pub copy-text-spec : {M : Type 1} → statement M
 copy-text-spec =

@@ -39,15 +39,25 @@ enum-told-2 c = search needs
 
 returns : tie.Need-returns Inv-loop μ-loop
 returns c =
-    let e = sym (c .before .before .escape-of .ensures ∙ ap (escapeOf (c .before .before .before .before .before .before .args .quoted)) (c .before .before .before .byte-at .ensures)) ∙ c .enum-told2 .given .1 in
-    sym (c .before .before .before .before .loop .inv .1 ∙ end-bad (c .before .before .before .before .before .before .args .quoted) (c .before .before .before .before .before .before .args .s .now) (c .before .before .before .before .loop .i) (c .before .before .before .before .loop .inv .0) e)
+    let at-loop = c .before .before .before .before in
+    let entry = at-loop .before .before in
+    let b = c .before .before .before .byte-at .ensures in
+    let e = sym (c .before .before .escape-of .ensures ∙ ap (escapeOf (entry .args .quoted)) b) ∙ c .enum-told2 .given .1 in
+    sym (at-loop .loop .inv .1 ∙ end-bad (entry .args .quoted) (entry .args .s .now) (at-loop .loop .i) (at-loop .loop .inv .0) e)
 
 -- at an escape: what it stands for, and that it stands within the text
-taken : (c : tie.After-enum-told Inv-loop μ-loop) → escapeOf (c .before .before .before .before .before .before .args .quoted) (byteAt (c .before .before .before .before .before .before .args .s .now) (c .before .before .before .before .loop .i + 1)) ≡ Escape.Byte (c .enum-told .given .0 .0)
+taken : (c : tie.After-enum-told Inv-loop μ-loop) →
+    let at-loop = c .before .before .before .before in
+    let entry = at-loop .before .before in
+    escapeOf (entry .args .quoted) (byteAt (entry .args .s .now) (at-loop .loop .i + 1)) ≡ Escape.Byte (c .enum-told .given .0 .0)
 taken c = sym (c .before .before .escape-of .ensures ∙ ap (escapeOf _) (c .before .before .before .byte-at .ensures)) ∙ c .enum-told .given .1
 
-next : (c : tie.After-enum-told Inv-loop μ-loop) → c .before .before .before .before .loop .i + 1 < length (c .before .before .before .before .before .before .args .s .now)
-next c = escape-inside _ (c .before .before .before .before .before .before .args .s .now) _ _ (taken c)
+next : (c : tie.After-enum-told Inv-loop μ-loop) →
+    let at-loop = c .before .before .before .before in
+    at-loop .loop .i + 1 < length (at-loop .before .before .args .s .now)
+next c =
+    let at-loop = c .before .before .before .before in
+    escape-inside _ (at-loop .before .before .args .s .now) _ _ (taken c)
 
 add-past-escapes : tie.Need-add-past-escapes Inv-loop μ-loop
 add-past-escapes c = omega (arith, next c)
@@ -65,16 +75,34 @@ stop-at-requires : tie.Need-stop-at-requires Inv-loop μ-loop
 stop-at-requires c κs = search needs
 
 -- behind the escapes the text ends where it did
-passed : (c : tie.After-past-escapes Inv-loop μ-loop) → let t = textEndAt (c .before .before .before .before .before .before .before .args .quoted) (c .before .before .before .before .before .before .before .args .s .now) in t (c .before .before .before .before .before .before .before .args .at) ≡ t (c .past-escapes .result .at)
-passed c = c .before .before .before .before .before .loop .inv .1 ∙ end-escape _ _ _ (c .before .before .before .before .before .loop .inv .0) _ (taken (c .before)) ∙ c .past-escapes .ensures .0 .ends
+passed : (c : tie.After-past-escapes Inv-loop μ-loop) →
+    let at-byte-at = c .before .before .before .before in
+    let entry = at-byte-at .before .before .before in
+    let t = textEndAt (entry .args .quoted) (entry .args .s .now) in
+    t (entry .args .at) ≡ t (c .past-escapes .result .at)
+passed c =
+    let at-enum-told = c .before in
+    let at-loop = at-enum-told .before .before .before .before in
+    at-loop .loop .inv .1 ∙ end-escape _ _ _ (at-loop .loop .inv .0) _ (taken at-enum-told) ∙ c .past-escapes .ensures .0 .ends
 
 returns-2 : tie.Need-returns-2 Inv-loop μ-loop
-returns-2 c = c .stop-at .ensures ∙ end-told _ _ _ _ _ (c .before .before .before .own-end .ensures) (c .before .before .byte-at2 .ensures) (c .before .if1 .taken) ∙ sym (passed (c .before .before .before .before))
+returns-2 c =
+    c .stop-at .ensures ∙ end-told _ _ _ _ _ (c .before .before .before .own-end .ensures) (c .before .before .byte-at2 .ensures) (c .before .if1 .taken)
+    ∙ sym (passed (c .before .before .before .before))
 
 loop-less : tie.Need-loop-less Inv-loop μ-loop
 loop-less c =
+    let at-enum-told = c .before .before .before .before in
+    let at-loop = at-enum-told .before .before .before .before in
+    let entry = at-loop .before .before in
     let e = c .before .before .before .past-escapes in
-    omega (arith, next (c .before .before .before .before), e .ensures .0 .later, c .before .before .own-end .ensures, runAt-le (own (c .before .before .before .before .before .before .before .before .before .before .args .quoted)) (c .before .before .before .before .before .before .before .before .before .before .args .s .now) (e .result .at))
+    omega (
+      arith,
+      next at-enum-told,
+      e .ensures .0 .later,
+      c .before .before .own-end .ensures,
+      runAt-le (own (entry .args .quoted)) (entry .args .s .now) (e .result .at),
+    )
 
 loop-again : tie.Need-loop-again Inv-loop μ-loop
 loop-again c = (sym (c .before .byte-at2 .ensures) ∙ c .if1 .left, passed (c .before .before .before) ∙ end-run _ _ _ ∙ ap (textEndAt _ _) (sym (c .before .before .own-end .ensures)))

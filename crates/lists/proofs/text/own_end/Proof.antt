@@ -37,7 +37,9 @@ returns c = rw (c .before .before .before .before .if1 .taken) (rw (c .before .i
 
 returns-2 : tie.Need-returns-2
 unfolding own isKind
-returns-2 c = rw (c .before .before .before .before .before .if1 .taken) (c .long-run-end .ensures ∙ sym (rw (c .before .before .i2 .given .1) at (c .before .before .before .before .first-two .ensures)))
+returns-2 c =
+    let at-first-two = c .before .before .before .before in
+    rw (at-first-two .before .if1 .taken) (c .long-run-end .ensures ∙ sym (rw (c .before .before .i2 .given .1) at (at-first-two .first-two .ensures)))
 
 returns-3 : tie.Need-returns-3
 unfolding own isKind
@@ -45,7 +47,9 @@ returns-3 c = rw (c .before .before .before .before .if1 .left) (rw (c .before .
 
 returns-4 : tie.Need-returns-4
 unfolding own isKind
-returns-4 c = rw (c .before .before .before .before .before .if1 .left) (c .long-run-end2 .ensures ∙ sym (rw (c .before .before .i4 .given .1) at (c .before .before .before .before .first-two2 .ensures)))
+returns-4 c =
+    let at-first-two2 = c .before .before .before .before in
+    rw (at-first-two2 .before .if1 .left) (c .long-run-end2 .ensures ∙ sym (rw (c .before .before .i4 .given .1) at (at-first-two2 .first-two2 .ensures)))
 
 pub own-end-spec : {M : Type 1} → statement M
 own-end-spec =

@@ -31,7 +31,9 @@ add-escape-of : tie.Need-add-escape-of Inv-loop μ-loop
 add-escape-of c = omega (arith, c .before .before .loop-test .taken, c .before .before .before .before .last-of .ensures)
 
 shared-slice-read-escape-of : tie.Need-shared-slice-read-escape-of Inv-loop μ-loop
-shared-slice-read-escape-of c = omega (arith, c .before .before .before .loop-test .taken, c .before .before .before .before .before .last-of .ensures)
+shared-slice-read-escape-of c =
+    let at-loop-test = c .before .before .before in
+    omega (arith, at-loop-test .loop-test .taken, at-loop-test .before .before .last-of .ensures)
 
 escape-of-requires : tie.Need-escape-of-requires Inv-loop μ-loop
 escape-of-requires c κs = search needs
@@ -43,20 +45,39 @@ enum-told-2 : tie.Need-enum-told-2 Inv-loop μ-loop
 enum-told-2 c = search needs
 
 returns-2 : tie.Need-returns-2 Inv-loop μ-loop
-returns-2 c = (c .before .before .before .before .before .before .before .loop .inv, λ e. sym (c .before .before .escape-of .ensures) ∙ c .enum-told2 .given .1)
+returns-2 c =
+    let at-if1 = c .before .before .before .before in
+    (at-if1 .before .before .before .loop .inv, λ e. sym (c .before .before .escape-of .ensures) ∙ c .enum-told2 .given .1)
 
 -- at an escape: that it stands within the text, and that it is passed
-next : (c : tie.After-enum-told Inv-loop μ-loop) → c .before .before .before .before .before .before .before .loop .i + 1 < length (c .before .before .before .before .before .before .before .before .before .before .args .s .now)
-next c = omega (arith, c .before .before .before .before .before .before .loop-test .taken, c .before .before .before .before .before .before .before .before .last-of .ensures)
+next : (c : tie.After-enum-told Inv-loop μ-loop) →
+    let at-if1 = c .before .before .before .before in
+    let at-loop = at-if1 .before .before .before in
+    at-loop .loop .i + 1 < length (at-loop .before .before .before .args .s .now)
+next c =
+    let at-if1 = c .before .before .before .before in
+    omega (arith, at-if1 .before .before .loop-test .taken, at-if1 .before .before .before .before .last-of .ensures)
 
-passed : (c : tie.After-enum-told Inv-loop μ-loop) → let a = c .before .before .before .before .before .before .before .before .before .before .args in let l = c .before .before .before .before .before .before .before .loop in Escaped (a .quoted) (a .s .now) (a .at) (l .i + 2) (l .n + 1)
-passed c = escaped-on _ _ _ _ _ _ (c .before .before .before .before .before .before .before .loop .inv) (c .before .before .before .before .if1 .left) (sym (c .before .before .escape-of .ensures) ∙ c .enum-told .given .1)
+passed : (c : tie.After-enum-told Inv-loop μ-loop) →
+    let at-if1 = c .before .before .before .before in
+    let at-loop = at-if1 .before .before .before in
+    let a = at-loop .before .before .before .args in
+    let l = at-loop .loop in
+    Escaped (a .quoted) (a .s .now) (a .at) (l .i + 2) (l .n + 1)
+passed c =
+    let at-if1 = c .before .before .before .before in
+    escaped-on _ _ _ _ _ _ (at-if1 .before .before .before .loop .inv) (at-if1 .if1 .left)
+    (sym (c .before .before .escape-of .ensures) ∙ c .enum-told .given .1)
 
 add-i : tie.Need-add-i Inv-loop μ-loop
 add-i c = omega (arith, next c)
 
 add-n : tie.Need-add-n Inv-loop μ-loop
-add-n c = let a = c .before .before .before .before .before .before .before .before .before .before .args in omega (arith, passed c .count, bytes-length (a .quoted) (a .s .now) (a .at))
+add-n c =
+    let at-if1 = c .before .before .before .before in
+    let at-last-of = at-if1 .before .before .before .before in
+    let a = at-last-of .before .before .args in
+    omega (arith, passed c .count, bytes-length (a .quoted) (a .s .now) (a .at))
 
 loop-less : tie.Need-loop-less Inv-loop μ-loop
 loop-less c = omega (arith, next c)
@@ -65,7 +86,12 @@ loop-again : tie.Need-loop-again Inv-loop μ-loop
 loop-again c = passed c
 
 returns-3 : tie.Need-returns-3 Inv-loop μ-loop
-returns-3 c = (c .before .loop .inv, stuck-last (c .before .before .before .before .args .quoted) (c .before .before .before .before .args .s .now) (c .before .loop .i) (omega (arith, c .loop-test .left, c .before .before .last-of .ensures)))
+returns-3 c =
+    let entry = c .before .before .before .before in (
+      c .before .loop .inv,
+      stuck-last (entry .args .quoted) (entry .args .s .now) (c .before .loop .i)
+          (omega (arith, c .loop-test .left, c .before .before .last-of .ensures)),
+    )
 
 pub past-escapes-spec : {M : Type 1} → statement M
 past-escapes-spec =

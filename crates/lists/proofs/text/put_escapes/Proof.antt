@@ -37,7 +37,9 @@ add-escape-of : tie.Need-add-escape-of Inv-loop μ-loop
 add-escape-of c = omega (arith, c .before .before .loop-test .taken, c .before .before .before .before .last-of .ensures)
 
 shared-slice-read-escape-of : tie.Need-shared-slice-read-escape-of Inv-loop μ-loop
-shared-slice-read-escape-of c = omega (arith, c .before .before .before .loop-test .taken, c .before .before .before .before .before .last-of .ensures)
+shared-slice-read-escape-of c =
+    let at-loop-test = c .before .before .before in
+    omega (arith, at-loop-test .loop-test .taken, at-loop-test .before .before .last-of .ensures)
 
 escape-of-requires : tie.Need-escape-of-requires Inv-loop μ-loop
 escape-of-requires c κs = search needs
@@ -49,20 +51,45 @@ enum-told : tie.Need-enum-told Inv-loop μ-loop
 enum-told c = search needs
 
 same-length-2 : tie.Need-same-length-2 Inv-loop μ-loop
-same-length-2 c = c .before .before .before .before .before .before .before .loop .inv .0 .size
+same-length-2 c =
+    let at-if1 = c .before .before .before .before in
+    at-if1 .before .before .before .loop .inv .0 .size
 
 returns-2 : tie.Need-returns-2 Inv-loop μ-loop
-returns-2 c = (c .before .before .before .before .before .before .before .loop .inv .0, (c .before .before .before .before .before .before .before .loop .inv .1, λ e. sym (c .before .before .escape-of .ensures) ∙ c .enum-told .given .1))
+returns-2 c =
+    let at-if1 = c .before .before .before .before in
+    let at-loop = at-if1 .before .before .before in
+    (at-loop .loop .inv .0, (at-loop .loop .inv .1, λ e. sym (c .before .before .escape-of .ensures) ∙ c .enum-told .given .1))
 
 -- at an escape: that it stands within the text, what it stands for, and that there is room for it
-next : (c : tie.After-known-told Inv-loop μ-loop) → c .before .before .before .before .before .before .before .before .loop .i + 1 < length (c .before .before .before .before .before .before .before .before .before .before .before .before .args .s .now)
-next c = omega (arith, c .before .before .before .before .before .before .before .loop-test .taken, c .before .before .before .before .before .before .before .before .before .last-of .ensures)
+next : (c : tie.After-known-told Inv-loop μ-loop) →
+    let at-read = c .before .before .before .before in
+    let at-loop = at-read .before .before .before .before in
+    at-loop .loop .i + 1 < length (at-loop .before .before .before .before .args .s .now)
+next c =
+    let at-escape-of = c .before .before .before in
+    let at-loop-test = at-escape-of .before .before .before .before in
+    omega (arith, at-loop-test .loop-test .taken, at-loop-test .before .before .last-of .ensures)
 
-escaped : (c : tie.After-known-told Inv-loop μ-loop) → let q = bytesAt (c .before .before .before .before .before .before .before .before .before .before .before .before .args .quoted) (c .before .before .before .before .before .before .before .before .before .before .before .before .args .s .now) in q (c .before .before .before .before .before .before .before .before .loop .i) ≡ c .before .c .given .0 .0 ∷ q (c .before .before .before .before .before .before .before .before .loop .i + 2)
-escaped c = bytes-escape _ _ _ (c .before .before .before .before .before .if1 .left) _ (sym (c .before .before .before .escape-of .ensures) ∙ c .before .c .given .1)
+escaped : (c : tie.After-known-told Inv-loop μ-loop) →
+    let at-read = c .before .before .before .before in
+    let at-loop = at-read .before .before .before .before in
+    let entry = at-loop .before .before .before .before in
+    let q = bytesAt (entry .args .quoted) (entry .args .s .now) in
+    q (at-loop .loop .i) ≡ c .before .c .given .0 .0 ∷ q (at-loop .loop .i + 2)
+escaped c =
+    let at-escape-of = c .before .before .before in
+    bytes-escape _ _ _ (at-escape-of .before .before .if1 .left) _ (sym (at-escape-of .escape-of .ensures) ∙ c .before .c .given .1)
 
-room : (c : tie.After-known-told Inv-loop μ-loop) → c .before .before .before .before .before .before .before .before .loop .n < length (c .before .before .before .before .before .before .before .before .loop .store)
-room c = let w = c .before .before .before .before .before .before .before .before .loop .inv .0 in omega (arith, w .count, w .size, c .before .before .before .before .before .before .before .before .before .before .before .before .pre .fits, ap length (escaped c))
+room : (c : tie.After-known-told Inv-loop μ-loop) →
+    let at-read = c .before .before .before .before in
+    let at-loop = at-read .before .before .before .before in
+    at-loop .loop .n < length (at-loop .loop .store)
+room c =
+    let at-read = c .before .before .before .before in
+    let at-loop = at-read .before .before .before .before in
+    let w = at-loop .loop .inv .0 in
+    omega (arith, w .count, w .size, at-loop .before .before .before .before .pre .fits, ap length (escaped c))
 
 slice-write-store : tie.Need-slice-write-store Inv-loop μ-loop
 slice-write-store c = omega (arith, room c)
@@ -77,13 +104,25 @@ loop-less : tie.Need-loop-less Inv-loop μ-loop
 loop-less c = omega (arith, next c)
 
 loop-again : tie.Need-loop-again Inv-loop μ-loop
-loop-again c = (writing-byte _ _ (escaped c) (c .before .before .before .before .before .before .before .before .loop .inv .0), omega (arith, c .before .before .before .before .before .before .before .before .loop .inv .1))
+loop-again c =
+    let at-read = c .before .before .before .before in
+    let at-loop = at-read .before .before .before .before in
+    (writing-byte _ _ (escaped c) (at-loop .loop .inv .0), omega (arith, at-loop .loop .inv .1))
 
 same-length-3 : tie.Need-same-length-3 Inv-loop μ-loop
 same-length-3 c = c .before .loop .inv .0 .size
 
 returns-3 : tie.Need-returns-3 Inv-loop μ-loop
-returns-3 c = (c .before .loop .inv .0, (c .before .loop .inv .1, stuck-last (c .before .before .before .before .before .args .quoted) (c .before .before .before .before .before .args .s .now) (c .before .loop .i) (omega (arith, c .loop-test .left, c .before .before .last-of .ensures))))
+returns-3 c =
+    let at-last-of = c .before .before in
+    let entry = at-last-of .before .before .before in (
+      c .before .loop .inv .0,
+      (
+        c .before .loop .inv .1,
+        stuck-last (entry .args .quoted) (entry .args .s .now) (c .before .loop .i)
+            (omega (arith, c .loop-test .left, at-last-of .last-of .ensures)),
+      ),
+    )
 
 pub put-escapes-spec : {M : Type 1} → statement M
 put-escapes-spec =

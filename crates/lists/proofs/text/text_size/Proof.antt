@@ -34,41 +34,68 @@ left : (c : tie.After-own-end Inv-loop μ-loop) →
 left c =
     let a = c .before .before .before .before .args in
     let e = c .before .past-escapes in
-    let f : length (bytesAt (a .quoted) (a .s .now) (e .result .at)) ≡ c .own-end .result - e .result .at + length (bytesAt (a .quoted) (a .s .now) (c .own-end .result)) = rw (c .own-end .ensures) (bytes-count (a .quoted) (a .s .now) (e .result .at)) in
+    let f : length (bytesAt (a .quoted) (a .s .now) (e .result .at)) ≡ c .own-end .result - e .result .at + length (bytesAt (a .quoted) (a .s .now) (c .own-end .result)) =
+    rw (c .own-end .ensures) (bytes-count (a .quoted) (a .s .now) (e .result .at)) in
     omega (arith, c .before .before .loop .inv, e .ensures .0 .count)
 
 sub-n : tie.Need-sub-n Inv-loop μ-loop
-sub-n c = omega (arith, c .before .own-end .ensures, runAt-le (own (c .before .before .before .before .before .args .quoted)) (c .before .before .before .before .before .args .s .now) (c .before .before .past-escapes .result .at))
+sub-n c =
+    let at-past-escapes = c .before .before in
+    let entry = at-past-escapes .before .before .before in
+    omega (arith, c .before .own-end .ensures, runAt-le (own (entry .args .quoted)) (entry .args .s .now) (at-past-escapes .past-escapes .result .at))
 
 add-n : tie.Need-add-n Inv-loop μ-loop
-add-n c = let a = c .before .before .before .before .before .before .args in omega (arith, left (c .before .before), bytes-length (a .quoted) (a .s .now) (a .at))
+add-n c =
+    let at-own-end = c .before .before in
+    let a = at-own-end .before .before .before .before .args in
+    omega (arith, left at-own-end, bytes-length (a .quoted) (a .s .now) (a .at))
 
 add-n-2 : tie.Need-add-n-2 Inv-loop μ-loop
-add-n-2 c = let a = c .before .before .before .before .before .before .args in omega (arith, left (c .before .before), bytes-length (a .quoted) (a .s .now) (a .at))
+add-n-2 c =
+    let at-own-end = c .before .before in
+    let a = at-own-end .before .before .before .before .args in
+    omega (arith, left at-own-end, bytes-length (a .quoted) (a .s .now) (a .at))
 
 byte-at-requires : tie.Need-byte-at-requires Inv-loop μ-loop
 byte-at-requires c κs = search needs
 
 returns : tie.Need-returns Inv-loop μ-loop
 returns c =
-    let a = c .before .before .before .before .before .before .before .before .args in
-    let n : Stands (a .quoted) (a .s .now) (c .before .before .before .before .own-end .result) = rw (c .before .before .before .before .own-end .ensures) (run-stands (a .quoted) (a .s .now) (c .before .before .before .before .before .past-escapes .result .at)) in
-    omega (arith, left (c .before .before .before .before), ap length (bytes-stop (a .quoted) (a .s .now) (c .before .before .before .before .own-end .result) n (λ e. c .if1 .taken (c .before .byte-at .ensures ∙ e))))
+    let at-own-end = c .before .before .before .before in
+    let a = at-own-end .before .before .before .before .args in
+    let n : Stands (a .quoted) (a .s .now) (at-own-end .own-end .result) =
+    rw (at-own-end .own-end .ensures) (run-stands (a .quoted) (a .s .now) (at-own-end .before .past-escapes .result .at)) in
+    omega (
+      arith,
+      left at-own-end,
+      ap length (bytes-stop (a .quoted) (a .s .now) (at-own-end .own-end .result) n (λ e. c .if1 .taken (c .before .byte-at .ensures ∙ e))),
+    )
 
 returns-2 : tie.Need-returns-2 Inv-loop μ-loop
 returns-2 c =
-    let b = sym (c .before .before .before .byte-at .ensures) ∙ c .before .before .if1 .left in
-    omega (arith, left (c .before .before .before .before .before .before), ap length (bytes-stuck (c .before .before .before .before .before .before .before .before .before .before .args .quoted) (c .before .before .before .before .before .before .before .before .before .before .args .s .now) _ _ (c .if2 .taken) (c .before .before .before .before .before .before .before .past-escapes .ensures .1) b))
+    let at-byte-at = c .before .before .before in
+    let at-past-escapes = at-byte-at .before .before .before .before in
+    let entry = at-past-escapes .before .before .before in
+    let b = sym (at-byte-at .byte-at .ensures) ∙ c .before .before .if1 .left in
+    omega (
+      arith,
+      left (at-byte-at .before .before .before),
+      ap length (bytes-stuck (entry .args .quoted) (entry .args .s .now) _ _ (c .if2 .taken) (at-past-escapes .past-escapes .ensures .1) b),
+    )
 
 loop-less : tie.Need-loop-less Inv-loop μ-loop
 loop-less c =
-    let a = c .before .before .before .before .before .before .before .before .before .before .args in
-    let b = byte-inside (a .s .now) (c .before .before .before .before .before .before .own-end .result) 0x5C (sym (c .before .before .before .byte-at .ensures) ∙ c .before .before .if1 .left) (omega arith) in
-    let e = c .before .before .before .before .before .before .before .past-escapes in
-    omega (arith, b, c .if2 .left, e .ensures .0 .later, c .before .before .before .before .before .before .own-end .ensures, runAt-le (own (a .quoted)) (a .s .now) (e .result .at))
+    let at-byte-at = c .before .before .before in
+    let at-own-end = at-byte-at .before .before .before in
+    let a = at-own-end .before .before .before .before .args in
+    let b = byte-inside (a .s .now) (at-own-end .own-end .result) 0x5C (sym (at-byte-at .byte-at .ensures) ∙ c .before .before .if1 .left) (omega arith) in
+    let e = at-own-end .before .past-escapes in
+    omega (arith, b, c .if2 .left, e .ensures .0 .later, at-own-end .own-end .ensures, runAt-le (own (a .quoted)) (a .s .now) (e .result .at))
 
 loop-again : tie.Need-loop-again Inv-loop μ-loop
-loop-again c = omega (arith, left (c .before .before .before .before .before .before))
+loop-again c =
+    let at-byte-at = c .before .before .before in
+    omega (arith, left (at-byte-at .before .before .before))
 
 pub text-size-spec : {M : Type 1} → statement M
 text-size-spec =
