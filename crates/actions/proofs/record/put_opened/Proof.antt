@@ -1,8 +1,6 @@
 -- `record::put_opened` meets its contract.
 -- Assumes nothing.
 use native.Mathlib.Omega.{arith}
-use Prim.Native.Nat.{_+_}
-use lib.ListN.{length}
 use Rattle.actions.specs.Within.{within-then, within-more}
 use borrow.Author.Needs.{needs}
 use Rattle.actions.proofs.record.put_opened.Statement.{statement}
@@ -39,28 +37,19 @@ same-length : tie.Need-same-length
 same-length c = search needs
 
 returns : tie.Need-returns
-returns c =
-    let at-enum-told = c .before .before .before .before in
-    rw (at-enum-told .enum-told .given .1)
-    (within-more 1 (11 + length (at-enum-told .before .before .before .before .args .s .now)) (omega arith) (c .before .before .put-small .ensures))
+returns c = rw (c .before .before .before .before .enum-told .given .1) (within-more _ _ (omega arith) (c .before .before .put-small .ensures))
 
 same-length-2 : tie.Need-same-length-2
 same-length-2 c = search needs
 
 returns-2 : tie.Need-returns-2
-returns-2 c =
-    let at-enum-told2 = c .before .before .before .before in
-    rw (at-enum-told2 .enum-told2 .given .1)
-    (within-more 1 (11 + length (at-enum-told2 .before .before .before .before .args .s .now)) (omega arith) (c .before .before .put-small2 .ensures))
+returns-2 c = rw (c .before .before .before .before .enum-told2 .given .1) (within-more _ _ (omega arith) (c .before .before .put-small2 .ensures))
 
 same-length-3 : tie.Need-same-length-3
 same-length-3 c = search needs
 
 returns-3 : tie.Need-returns-3
-returns-3 c =
-    let at-enum-told3 = c .before .before .before .before in
-    rw (at-enum-told3 .enum-told3 .given .1)
-    (within-more 1 (11 + length (at-enum-told3 .before .before .before .before .args .s .now)) (omega arith) (c .before .before .put-small3 .ensures))
+returns-3 c = rw (c .before .before .before .before .enum-told3 .given .1) (within-more _ _ (omega arith) (c .before .before .put-small3 .ensures))
 
 same-length-4 : tie.Need-same-length-4
 same-length-4 c = search needs
@@ -69,10 +58,8 @@ returns-4 : tie.Need-returns-4
 returns-4 c =
     let at-put-item-within = c .before .before in
     let at-put-small4 = at-put-item-within .before .before .before .before in
-    let at-t = at-put-small4 .before .before .before in
-    let n = length (at-t .before .before .before .before .args .s .now) in
-    rw (at-t .t .given .1) (within-more (1 + (10 + n)) (11 + n) (omega arith)
-    (within-then 1 (10 + n) (at-put-small4 .put-small4 .ensures) (at-put-item-within .put-item-within .ensures)))
+    rw (at-put-small4 .before .before .before .t .given .1)
+    (within-more _ _ (omega arith) (within-then _ _ (at-put-small4 .put-small4 .ensures) (at-put-item-within .put-item-within .ensures)))
 
 pub put-opened-spec : {M : Type 1} → statement M
 put-opened-spec =

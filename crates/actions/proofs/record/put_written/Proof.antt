@@ -1,8 +1,6 @@
 -- `record::put_written` meets its contract.
 -- Assumes nothing.
 use native.Mathlib.Omega.{arith}
-use Prim.Native.Nat.{_+_}
-use lib.ListN.{length}
 use Rattle.actions.specs.Within.{within-then, within-more}
 use borrow.Author.Needs.{needs}
 use Rattle.actions.proofs.record.put_written.Statement.{statement}
@@ -27,10 +25,7 @@ same-length : tie.Need-same-length
 same-length c = search needs
 
 returns : tie.Need-returns
-returns c =
-    let at-enum-told = c .before .before .before .before in
-    rw (at-enum-told .enum-told .given .1)
-    (within-more 1 (11 + length (at-enum-told .before .before .before .before .args .s .now)) (omega arith) (c .before .before .put-small .ensures))
+returns c = rw (c .before .before .before .before .enum-told .given .1) (within-more _ _ (omega arith) (c .before .before .put-small .ensures))
 
 same-length-2 : tie.Need-same-length-2
 same-length-2 c = search needs
@@ -39,10 +34,8 @@ returns-2 : tie.Need-returns-2
 returns-2 c =
     let at-put-item-within = c .before .before in
     let at-put-small2 = at-put-item-within .before .before .before .before in
-    let at-n = at-put-small2 .before .before .before in
-    let n = length (at-n .before .before .before .before .args .s .now) in
-    rw (at-n .n .given .1) (within-more (1 + (10 + n)) (11 + n) (omega arith)
-    (within-then 1 (10 + n) (at-put-small2 .put-small2 .ensures) (at-put-item-within .put-item-within .ensures)))
+    rw (at-put-small2 .before .before .before .n .given .1)
+    (within-more _ _ (omega arith) (within-then _ _ (at-put-small2 .put-small2 .ensures) (at-put-item-within .put-item-within .ensures)))
 
 pub put-written-spec : {M : Type 1} → statement M
 put-written-spec =
