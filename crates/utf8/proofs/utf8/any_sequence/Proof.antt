@@ -42,6 +42,16 @@ highest-requires c κs = search needs
 follows-requires : tie.Need-follows-requires
 follows-requires c κs = search needs
 
+-- where the followers were counted, from behind each of them
+abbrev counted-1 : tie.After-follows → tie.After-followers
+counted-1 c = let at-if2 = c .before .before .before in at-if2 .before .before
+
+abbrev counted-2 : tie.After-follows2 → tie.After-followers
+counted-2 c = counted-1 (c .before .before .before)
+
+abbrev counted-3 : tie.After-follows3 → tie.After-followers
+counted-3 c = counted-2 (c .before .before .before)
+
 -- how many follow: at most 4; two or three; three
 few : (c : tie.After-followers) → c .followers .result ≤ 4
 few c = rw (c .followers .ensures) (followers-four _)
@@ -52,20 +62,19 @@ two-more n h a b d = (omega arith, omega arith)
 only-three : (n : ℕ) → n ≤ 4 → (n ≡ 0 → ⊥) → (n ≡ 4 → ⊥) → (n ≡ 1 → ⊥) → (n ≡ 2 → ⊥) → n ≡ 3
 only-three n h a b d e = omega arith
 
+-- what each of them is told to be
 second : (c : tie.After-follows) →
-    let at-if1 = c .before .before .before .before in
-    let a = at-if1 .before .before .before .before .args in
+    let a = counted-1 c .before .before .before .args in
     let b = byteAt (a .s .now) (a .i) in
     c .follows .result ≡ within (lowest b) (highest b) (byteAt (a .s .now) (a .i + 1))
 second c = rw (← c .before .before .lowest .ensures, ← c .before .highest .ensures) (c .follows .ensures)
 
 returns-3 : tie.Need-returns-3
 returns-3 c =
-    let at-if2 = c .before .before .before .before in
-    let at-followers = at-if2 .before .before in
-    let n = at-followers .followers .result in
+    let counted = counted-1 (c .before) in
+    let n = counted .followers .result in
     let e : n ≡ suc (n - 1) = omega arith in
-    second-off _ _ (at-followers .before .before .before .pre) (n - 1) (sym (at-followers .followers .ensures) ∙ e) (omega (arith, few at-followers))
+    second-off _ _ (counted .before .before .before .pre) (n - 1) (sym (counted .followers .ensures) ∙ e) (omega (arith, few counted))
     (sym (second (c .before)) ∙ not-true _ (c .if3 .taken))
 
 add-t12 : tie.Need-add-t12
@@ -73,9 +82,8 @@ add-t12 c = search needs
 
 returns-4 : tie.Need-returns-4
 returns-4 c =
-    let at-lowest = c .before .before .before .before in
-    let at-followers = at-lowest .before .before .before in
-    sequence-two _ _ (at-followers .before .before .before .pre) (sym (at-followers .followers .ensures) ∙ c .if4 .taken)
+    let counted = counted-1 (c .before .before) in
+    sequence-two _ _ (counted .before .before .before .pre) (sym (counted .followers .ensures) ∙ c .if4 .taken)
     (sym (second (c .before .before)) ∙ not-false _ (c .before .if3 .left))
 
 add-follows-2 : tie.Need-add-follows-2
@@ -85,9 +93,7 @@ follows-requires-2 : tie.Need-follows-requires-2
 follows-requires-2 c κs = search needs
 
 second-on : (c : tie.After-follows2) →
-    let at-highest = c .before .before .before .before in
-    let at-followers = at-highest .before .before .before .before in
-    let a = at-followers .before .before .before .args in
+    let a = counted-2 c .before .before .before .args in
     let b = byteAt (a .s .now) (a .i) in
     within (lowest b) (highest b) (byteAt (a .s .now) (a .i + 1)) ≡ true
 second-on c = sym (second (c .before .before .before)) ∙ not-false _ (c .before .before .if3 .left)
@@ -97,9 +103,9 @@ returns-5 c =
     let at-if4 = c .before .before in
     let at-lowest = at-if4 .before .before .before .before in
     let at-if2 = at-lowest .before in
-    let at-followers = at-if2 .before .before in
-    let e = two-more _ (few at-followers) (at-if2 .before .if1 .left) (at-if2 .if2 .left) (at-if4 .if4 .left) in
-    third-off _ _ (at-followers .before .before .before .pre) _ (sym (at-followers .followers .ensures) ∙ e .0) (e .1)
+    let counted = counted-2 (c .before) in
+    let e = two-more _ (few counted) (at-if2 .before .if1 .left) (at-if2 .if2 .left) (at-if4 .if4 .left) in
+    third-off _ _ (counted .before .before .before .pre) _ (sym (counted .followers .ensures) ∙ e .0) (e .1)
     (second-on (c .before)) (sym (c .before .follows2 .ensures) ∙ not-true _ (c .if5 .taken))
 
 add-t13 : tie.Need-add-t13
@@ -107,11 +113,10 @@ add-t13 c = search needs
 
 returns-6 : tie.Need-returns-6
 returns-6 c =
-    let at-follows2 = c .before .before in
-    let at-highest = at-follows2 .before .before .before .before in
-    let at-followers = at-highest .before .before .before .before in
-    sequence-three _ _ (at-followers .before .before .before .pre) (second-on at-follows2)
-    (sym (at-follows2 .follows2 .ensures) ∙ not-false _ (c .before .if5 .left)) (sym (at-followers .followers .ensures) ∙ c .if6 .taken)
+    let told = c .before .before in
+    let counted = counted-2 told in
+    sequence-three _ _ (counted .before .before .before .pre) (second-on told) (sym (told .follows2 .ensures) ∙ not-false _ (c .before .if5 .left))
+    (sym (counted .followers .ensures) ∙ c .if6 .taken)
 
 add-follows-3 : tie.Need-add-follows-3
 add-follows-3 c = search needs
@@ -119,47 +124,32 @@ add-follows-3 c = search needs
 follows-requires-3 : tie.Need-follows-requires-3
 follows-requires-3 c κs = search needs
 
-third-on : (c : tie.After-follows3) →
-    let at-if4 = c .before .before .before .before in
-    let at-lowest = at-if4 .before .before .before .before in
-    let at-followers = at-lowest .before .before .before in
-    let a = at-followers .before .before .before .args in
-    within 0x80 0xBF (byteAt (a .s .now) (a .i + 2)) ≡ true
+third-on : (c : tie.After-follows3) → let a = counted-3 c .before .before .before .args in within 0x80 0xBF (byteAt (a .s .now) (a .i + 2)) ≡ true
 third-on c = sym (c .before .before .before .follows2 .ensures) ∙ not-false _ (c .before .before .if5 .left)
 
-three : (c : tie.After-follows3) →
+three : (c : tie.After-follows3) → let a = counted-3 c .before .before .before .args in followers (byteAt (a .s .now) (a .i)) ≡ 3
+three c =
     let at-if4 = c .before .before .before .before in
     let at-lowest = at-if4 .before .before .before .before in
-    let at-followers = at-lowest .before .before .before in
-    let a = at-followers .before .before .before .args in
-    followers (byteAt (a .s .now) (a .i)) ≡ 3
-three c =
-    let at-if6 = c .before in
-    let at-if4 = at-if6 .before .before .before in
-    let at-lowest = at-if4 .before .before .before .before in
     let at-if2 = at-lowest .before in
-    let at-followers = at-if2 .before .before in
-    sym (at-followers .followers .ensures)
-    ∙ only-three _ (few at-followers) (at-if2 .before .if1 .left) (at-if2 .if2 .left) (at-if4 .if4 .left) (at-if6 .if6 .left)
+    let counted = counted-3 c in
+    sym (counted .followers .ensures)
+    ∙ only-three _ (few counted) (at-if2 .before .if1 .left) (at-if2 .if2 .left) (at-if4 .if4 .left) (c .before .if6 .left)
 
 returns-7 : tie.Need-returns-7
 returns-7 c =
-    let at-follows2 = c .before .before .before .before in
-    let at-highest = at-follows2 .before .before .before .before in
-    let at-followers = at-highest .before .before .before .before in
-    fourth-off _ _ (at-followers .before .before .before .pre) (second-on at-follows2) (third-on (c .before)) (three (c .before))
-    (sym (c .before .follows3 .ensures) ∙ not-true _ (c .if7 .taken))
+    let told = c .before in
+    fourth-off _ _ (counted-3 told .before .before .before .pre) (second-on (told .before .before .before)) (third-on told) (three told)
+    (sym (told .follows3 .ensures) ∙ not-true _ (c .if7 .taken))
 
 add-t9 : tie.Need-add-t9
 add-t9 c = search needs
 
 returns-8 : tie.Need-returns-8
 returns-8 c =
-    let at-follows2 = c .before .before .before .before in
-    let at-highest = at-follows2 .before .before .before .before in
-    let at-followers = at-highest .before .before .before .before in
-    sequence-four _ _ (at-followers .before .before .before .pre) (second-on at-follows2) (third-on (c .before)) (three (c .before))
-    (sym (c .before .follows3 .ensures) ∙ not-false _ (c .if7 .left))
+    let told = c .before in
+    sequence-four _ _ (counted-3 told .before .before .before .pre) (second-on (told .before .before .before)) (third-on told) (three told)
+    (sym (told .follows3 .ensures) ∙ not-false _ (c .if7 .left))
 
 pub any-sequence-spec : {M : Type 1} → statement M
 any-sequence-spec =
