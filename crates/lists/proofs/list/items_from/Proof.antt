@@ -7,9 +7,10 @@ use native.Mathlib.Omega.{arith}
 use lib.ListN.{length}
 use Rattle.scan.specs.Bytes.{isSpace}
 use Rattle.scan.specs.RunLaws.{runAt-le}
-use Rattle.lists.specs.Lists.{itemAt, itemsAt}
+use Rattle.lists.specs.Lists.{Items, itemAt, itemsAt}
 use Rattle.lists.specs.Listed.{listFrom}
 use Rattle.lists.specs.ListLaws.{item-in, items-bad, items-last, items-left, items-on, list-more, list-last}
+use Rattle.lists.specs.declared.list.ListRead.{ListRead}
 use Rattle.lists.specs.declared.list.Picked.{Picked}
 use Rattle.lists.specs.declared.text.TextEnd.{TextEnd}
 use borrow.Author.Needs.{needs}
@@ -35,14 +36,15 @@ enum-known-j c = search needs
 enum-told : tie.Need-enum-told Inv-loop μ-loop
 enum-told c = search needs
 
+-- what is seen of the items from here on
+abbrev seen : tie.At-loop Inv-loop μ-loop → Items → ListRead
+seen c = let a = c .before .before .args in listFrom (a .s .now) (a .flags) (c .loop .n) (c .loop .keyless) (c .loop .picked)
+
 returns : tie.Need-returns Inv-loop μ-loop
 unfolding listFrom
 returns c =
     let at-loop = c .before .before .before in
-    let a = at-loop .before .before .args in
-    let l = at-loop .loop in
-    sym (l .inv .1 ∙ ap (listFrom (a .s .now) (a .flags) (l .n) (l .keyless) (l .picked))
-    (items-bad (a .s .now) (l .i) (sym (c .before .before .item-end .ensures) ∙ c .enum-told .given .1)))
+    sym (at-loop .loop .inv .1 ∙ ap (seen at-loop) (items-bad _ _ (sym (c .before .before .item-end .ensures) ∙ c .enum-told .given .1)))
 
 ended : (c : tie.After-known-told Inv-loop μ-loop) →
     let at-loop = c .before .before .before .before in
@@ -50,9 +52,7 @@ ended : (c : tie.After-known-told Inv-loop μ-loop) →
 ended c = sym (c .before .before .before .item-end .ensures) ∙ c .before .j .given .1
 
 add-n : tie.Need-add-n Inv-loop μ-loop
-add-n c =
-    let at-item-end = c .before .before .before in
-    omega (arith, item-in (at-item-end .before .before .before .args .s .now) _ _ (sym (at-item-end .item-end .ensures) ∙ c .before .j .given .1))
+add-n c = let at-loop = c .before .before .before .before in omega (arith, item-in (at-loop .before .before .args .s .now) _ _ (ended c))
 
 keyless-by-requires : tie.Need-keyless-by-requires Inv-loop μ-loop
 keyless-by-requires c κs = search needs
@@ -65,58 +65,44 @@ skip-spaces-requires c κs = search needs
 
 returns-2 : tie.Need-returns-2 Inv-loop μ-loop
 returns-2 c =
-    let at-known-told = c .before .before .before .before in
-    let at-loop = at-known-told .before .before .before .before in
-    let a = at-loop .before .before .args in
-    let l = at-loop .loop in
+    let told = c .before .before .before .before in
+    let at-loop = told .before .before .before .before in
     sym
-    (l .inv .1
-    ∙ ap (listFrom (a .s .now) (a .flags) (l .n) (l .keyless) (l .picked))
-    (items-last (a .s .now) (l .i) _ (ended at-known-told) (sym (c .before .skip-spaces .ensures) ∙ c .if1 .taken))
-    ∙ list-last (a .s .now) (a .flags) (l .n) (l .keyless) (l .picked) _
+    (at-loop .loop .inv .1
+    ∙ ap (seen at-loop) (items-last _ _ _ (ended told) (sym (c .before .skip-spaces .ensures) ∙ c .if1 .taken))
+    ∙ list-last _ _ _ _ _ _
     ∙ rw (← c .before .before .before .keyless-by .ensures, ← c .before .before .passed .ensures))
 
 returns-3 : tie.Need-returns-3 Inv-loop μ-loop
 unfolding listFrom
 returns-3 c =
-    let at-skip-spaces = c .before .before in
-    let at-known-told = at-skip-spaces .before .before .before in
-    let at-loop = at-known-told .before .before .before .before in
-    let a = at-loop .before .before .args in
-    let l = at-loop .loop in
-    let k = at-skip-spaces .skip-spaces .ensures in
-    sym
-    (l .inv .1
-    ∙ ap (listFrom (a .s .now) (a .flags) (l .n) (l .keyless) (l .picked))
-    (items-left (a .s .now) (l .i) _ (ended at-known-told) (λ e. c .before .if1 .left (k ∙ e)) (sym k ∙ c .if2 .taken)))
+    let k = c .before .before .skip-spaces .ensures in
+    let at-keyless-by = c .before .before .before .before in
+    let told = at-keyless-by .before in
+    let at-loop = told .before .before .before .before in
+    sym (at-loop .loop .inv .1 ∙ ap (seen at-loop) (items-left _ _ _ (ended told) (λ e. c .before .if1 .left (k ∙ e)) (sym k ∙ c .if2 .taken)))
 
 loop-less : tie.Need-loop-less Inv-loop μ-loop
 loop-less c =
-    let at-skip-spaces = c .before .before in
-    let at-j = at-skip-spaces .before .before .before .before in
-    let at-loop = at-j .before .before .before in
-    let a = at-loop .before .before .args in
-    let l = at-loop .loop in
-    omega (
-      arith,
-      item-in (a .s .now) _ _ (ended (at-skip-spaces .before .before .before)),
-      at-skip-spaces .skip-spaces .ensures,
-      runAt-le isSpace (a .s .now) (at-j .j .given .0 .0),
-    )
+    let k = c .before .before .skip-spaces .ensures in
+    let at-keyless-by = c .before .before .before .before in
+    let told = at-keyless-by .before in
+    let at-loop = told .before .before .before .before in
+    let s = at-loop .before .before .args .s .now in
+    omega (arith, item-in s _ _ (ended told), k, runAt-le isSpace s (told .before .j .given .0 .0))
 
 loop-again : tie.Need-loop-again Inv-loop μ-loop
 loop-again c =
+    let k = c .before .before .skip-spaces .ensures in
     let at-keyless-by = c .before .before .before .before in
-    let at-known-told = at-keyless-by .before in
-    let at-loop = at-known-told .before .before .before .before in
-    let a = at-loop .before .before .args in
-    let l = at-loop .loop in
-    let k = c .before .before .skip-spaces .ensures in (
-      omega (arith, item-in (a .s .now) _ _ (ended at-known-told), k, runAt-le isSpace (a .s .now) (at-known-told .before .j .given .0 .0), l .inv .0),
+    let told = at-keyless-by .before in
+    let at-loop = told .before .before .before .before in
+    let s = at-loop .before .before .args .s .now in
+    let l = at-loop .loop in (
+      omega (arith, item-in s _ _ (ended told), k, runAt-le isSpace s (told .before .j .given .0 .0), l .inv .0),
       l .inv .1
-          ∙ ap (listFrom (a .s .now) (a .flags) (l .n) (l .keyless) (l .picked))
-          (items-on (a .s .now) (l .i) _ (ended at-known-told) (λ e. c .before .if1 .left (k ∙ e)) (λ e. c .if2 .left (k ∙ e)))
-          ∙ list-more (a .s .now) (a .flags) (l .n) (l .keyless) (l .picked) _ _
+          ∙ ap (seen at-loop) (items-on _ _ _ (ended told) (λ e. c .before .if1 .left (k ∙ e)) (λ e. c .if2 .left (k ∙ e)))
+          ∙ list-more _ _ _ _ _ _ _
           ∙ rw (← at-keyless-by .keyless-by .ensures, ← c .before .before .before .passed .ensures, ← k),
     )
 

@@ -9,7 +9,7 @@ use Rattle.scan.specs.Scan.{partOf}
 use Rattle.scan.specs.RunLaws.{runAt-le, byte-inside}
 use Rattle.store.specs.Splice.{Writing, writing-start, writing-left, writing-room, writing-put, writing-then, writing-end}
 use Rattle.lists.specs.Text.{own, bytesAt}
-use Rattle.lists.specs.TextLaws.{bytes-run, Stands, run-stands, bytes-stop, bytes-stuck}
+use Rattle.lists.specs.TextLaws.{bytes-run-to, bytes-run-end, bytes-stuck}
 use borrow.Author.Needs.{needs}
 use Rattle.lists.proofs.text.copy_text.Statement.{statement}
 use Rattle.lists.proofs.text.copy_text.Tie as tie
@@ -32,6 +32,13 @@ own-end-requires c κs = search needs
 part-requires : tie.Need-part-requires Inv-loop μ-loop
 part-requires c κs = search needs
 
+-- the start, and the escapes before it, from behind a run
+abbrev entry : tie.After-own-end Inv-loop μ-loop → tie.Start Inv-loop μ-loop
+entry c = let at-lent = c .before .before .before .before in at-lent .before .before .before .before
+
+abbrev past : tie.After-own-end Inv-loop μ-loop → tie.After-put-escapes Inv-loop μ-loop
+past c = c .before .before .before
+
 -- behind the escapes: what is left, which a run starts
 escapes : (c : tie.After-put-escapes Inv-loop μ-loop) →
     let at-loop = c .before .before in
@@ -41,31 +48,27 @@ escapes : (c : tie.After-put-escapes Inv-loop μ-loop) →
 escapes c = writing-then (c .put-escapes .ensures .0) (c .before .before .loop .inv)
 
 runs : (c : tie.After-own-end Inv-loop μ-loop) →
-    let at-lent = c .before .before .before .before in
-    let a = at-lent .before .before .before .before .args in
-    let i = c .before .before .before .put-escapes .result .at in
-    bytesAt (a .quoted) (a .s .now) i ≡ partOf (a .s .now) i (c .own-end .result) ++ bytesAt (a .quoted) (a .s .now) (c .own-end .result)
-runs c = rw (c .own-end .ensures) (bytes-run _ _ _)
+    let a = entry c .args in
+    let q = bytesAt (a .quoted) (a .s .now) in
+    q (past c .put-escapes .result .at) ≡ partOf (a .s .now) (past c .put-escapes .result .at) (c .own-end .result) ++ q (c .own-end .result)
+runs c = bytes-run-to _ _ _ _ (c .own-end .ensures)
 
 put-bytes-requires : tie.Need-put-bytes-requires Inv-loop μ-loop
 put-bytes-requires c κs =
     let at-own-end = c .before .before in
-    let at-lent = at-own-end .before .before .before .before in
-    rw (c .part .ensures)
-    (writing-room _ _ (at-lent .before .before .before .before .pre .1) (runs at-own-end) (escapes (at-own-end .before .before .before)))
+    rw (c .part .ensures) (writing-room _ _ (entry at-own-end .pre .1) (runs at-own-end) (escapes (past at-own-end)))
 
 byte-at-requires : tie.Need-byte-at-requires Inv-loop μ-loop
 byte-at-requires c κs = search needs
 
 written : (c : tie.After-put-bytes Inv-loop μ-loop) →
     let at-own-end = c .before .before .before in
-    let at-lent = at-own-end .before .before .before .before in
-    let a = at-lent .before .before .before .before .args in
+    let a = entry at-own-end .args in
     let q = bytesAt (a .quoted) (a .s .now) in
     Writing (a .store .now) (a .to) (q (a .at)) (c .put-bytes .last .0) (c .put-bytes .result) (q (at-own-end .own-end .result))
 written c =
     let at-own-end = c .before .before .before in
-    writing-put _ (rw (c .before .part .ensures) at (c .put-bytes .ensures)) (runs at-own-end) (escapes (at-own-end .before .before .before))
+    writing-put _ (rw (c .before .part .ensures) at (c .put-bytes .ensures)) (runs at-own-end) (escapes (past at-own-end))
 
 same-length : tie.Need-same-length Inv-loop μ-loop
 same-length c = written (c .before .before .before .before) .size
@@ -74,12 +77,7 @@ returns : tie.Need-returns Inv-loop μ-loop
 returns c =
     let at-put-bytes = c .before .before .before .before in
     let at-own-end = at-put-bytes .before .before .before in
-    let at-lent = at-own-end .before .before .before .before in
-    let a = at-lent .before .before .before .before .args in
-    let n : Stands (a .quoted) (a .s .now) (at-own-end .own-end .result) =
-    rw (at-own-end .own-end .ensures) (run-stands (a .quoted) (a .s .now) (at-own-end .before .before .before .put-escapes .result .at)) in
-    writing-end (bytes-stop (a .quoted) (a .s .now) (at-own-end .own-end .result) n (λ e. c .if1 .taken (c .before .byte-at .ensures ∙ e)))
-    (written at-put-bytes)
+    writing-end (bytes-run-end _ _ _ _ (at-own-end .own-end .ensures) (λ e. c .if1 .taken (c .before .byte-at .ensures ∙ e))) (written at-put-bytes)
 
 same-length-2 : tie.Need-same-length-2 Inv-loop μ-loop
 same-length-2 c =
@@ -91,21 +89,18 @@ returns-2 c =
     let at-byte-at = c .before .before .before in
     let at-put-bytes = at-byte-at .before .before .before in
     let at-own-end = at-put-bytes .before .before .before in
-    let at-lent = at-own-end .before .before .before .before in
-    let entry = at-lent .before .before .before .before in
     let b = sym (at-byte-at .byte-at .ensures) ∙ c .before .before .if1 .left in
-    writing-end (bytes-stuck (entry .args .quoted) (entry .args .s .now) _ _ (c .if2 .taken) (at-own-end .before .before .before .put-escapes .ensures .1 .1) b)
-    (written at-put-bytes)
+    let a = entry at-own-end .args in
+    writing-end (bytes-stuck (a .quoted) (a .s .now) _ _ (c .if2 .taken) (past at-own-end .put-escapes .ensures .1 .1) b) (written at-put-bytes)
 
 loop-less : tie.Need-loop-less Inv-loop μ-loop
 loop-less c =
     let at-byte-at = c .before .before .before in
-    let at-part = at-byte-at .before .before .before .before in
-    let at-own-end = at-part .before .before in
-    let at-lent = at-own-end .before .before .before .before in
-    let a = at-lent .before .before .before .before .args in
+    let at-put-bytes = at-byte-at .before .before .before in
+    let at-own-end = at-put-bytes .before .before .before in
+    let a = entry at-own-end .args in
     let b = byte-inside (a .s .now) (at-own-end .own-end .result) 0x5C (sym (at-byte-at .byte-at .ensures) ∙ c .before .before .if1 .left) (omega arith) in
-    let e = at-own-end .before .before .before .put-escapes in
+    let e = past at-own-end .put-escapes in
     omega (arith, b, c .if2 .left, e .ensures .1 .0, at-own-end .own-end .ensures, runAt-le (own (a .quoted)) (a .s .now) (e .result .at))
 
 loop-again : tie.Need-loop-again Inv-loop μ-loop

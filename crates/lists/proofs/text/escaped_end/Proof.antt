@@ -45,19 +45,19 @@ returns c =
     let e = sym (c .before .before .escape-of .ensures ∙ ap (escapeOf (entry .args .quoted)) b) ∙ c .enum-told2 .given .1 in
     sym (at-loop .loop .inv .1 ∙ end-bad (entry .args .quoted) (entry .args .s .now) (at-loop .loop .i) (at-loop .loop .inv .0) e)
 
+-- where the turn began, from behind an escape
+abbrev at-loop : tie.After-enum-told Inv-loop μ-loop → tie.At-loop Inv-loop μ-loop
+at-loop c = c .before .before .before .before
+
 -- at an escape: what it stands for, and that it stands within the text
 taken : (c : tie.After-enum-told Inv-loop μ-loop) →
-    let at-loop = c .before .before .before .before in
-    let entry = at-loop .before .before in
-    escapeOf (entry .args .quoted) (byteAt (entry .args .s .now) (at-loop .loop .i + 1)) ≡ Escape.Byte (c .enum-told .given .0 .0)
+    let l = at-loop c in
+    let a = l .before .before .args in
+    escapeOf (a .quoted) (byteAt (a .s .now) (l .loop .i + 1)) ≡ Escape.Byte (c .enum-told .given .0 .0)
 taken c = sym (c .before .before .escape-of .ensures ∙ ap (escapeOf _) (c .before .before .before .byte-at .ensures)) ∙ c .enum-told .given .1
 
-next : (c : tie.After-enum-told Inv-loop μ-loop) →
-    let at-loop = c .before .before .before .before in
-    at-loop .loop .i + 1 < length (at-loop .before .before .args .s .now)
-next c =
-    let at-loop = c .before .before .before .before in
-    escape-inside _ (at-loop .before .before .args .s .now) _ _ (taken c)
+next : (c : tie.After-enum-told Inv-loop μ-loop) → let l = at-loop c in l .loop .i + 1 < length (l .before .before .args .s .now)
+next c = escape-inside _ (at-loop c .before .before .args .s .now) _ _ (taken c)
 
 add-past-escapes : tie.Need-add-past-escapes Inv-loop μ-loop
 add-past-escapes c = omega (arith, next c)
@@ -76,14 +76,12 @@ stop-at-requires c κs = search needs
 
 -- behind the escapes the text ends where it did
 passed : (c : tie.After-past-escapes Inv-loop μ-loop) →
-    let at-byte-at = c .before .before .before .before in
-    let entry = at-byte-at .before .before .before in
-    let t = textEndAt (entry .args .quoted) (entry .args .s .now) in
-    t (entry .args .at) ≡ t (c .past-escapes .result .at)
+    let a = at-loop (c .before) .before .before .args in
+    let t = textEndAt (a .quoted) (a .s .now) in
+    t (a .at) ≡ t (c .past-escapes .result .at)
 passed c =
-    let at-enum-told = c .before in
-    let at-loop = at-enum-told .before .before .before .before in
-    at-loop .loop .inv .1 ∙ end-escape _ _ _ (at-loop .loop .inv .0) _ (taken at-enum-told) ∙ c .past-escapes .ensures .0 .ends
+    let l = at-loop (c .before) .loop in
+    l .inv .1 ∙ end-escape _ _ _ (l .inv .0) _ (taken (c .before)) ∙ c .past-escapes .ensures .0 .ends
 
 returns-2 : tie.Need-returns-2 Inv-loop μ-loop
 returns-2 c =
@@ -93,16 +91,10 @@ returns-2 c =
 loop-less : tie.Need-loop-less Inv-loop μ-loop
 loop-less c =
     let at-enum-told = c .before .before .before .before in
-    let at-loop = at-enum-told .before .before .before .before in
-    let entry = at-loop .before .before in
+    let a = at-loop at-enum-told .before .before .args in
     let e = c .before .before .before .past-escapes in
-    omega (
-      arith,
-      next at-enum-told,
-      e .ensures .0 .later,
-      c .before .before .own-end .ensures,
-      runAt-le (own (entry .args .quoted)) (entry .args .s .now) (e .result .at),
-    )
+    let o = c .before .before .own-end .ensures in
+    omega (arith, next at-enum-told, e .ensures .0 .later, o, runAt-le (own (a .quoted)) (a .s .now) (e .result .at))
 
 loop-again : tie.Need-loop-again Inv-loop μ-loop
 loop-again c = (sym (c .before .byte-at2 .ensures) ∙ c .if1 .left, passed (c .before .before .before) ∙ end-run _ _ _ ∙ ap (textEndAt _ _) (sym (c .before .before .own-end .ensures)))

@@ -49,34 +49,30 @@ returns-2 c =
     let at-if1 = c .before .before .before .before in
     (at-if1 .before .before .before .loop .inv, λ e. sym (c .before .before .escape-of .ensures) ∙ c .enum-told2 .given .1)
 
+-- where the turn began, from behind an escape
+abbrev at-loop : tie.After-enum-told Inv-loop μ-loop → tie.At-loop Inv-loop μ-loop
+at-loop c = let at-if1 = c .before .before .before .before in at-if1 .before .before .before
+
 -- at an escape: that it stands within the text, and that it is passed
-next : (c : tie.After-enum-told Inv-loop μ-loop) →
-    let at-if1 = c .before .before .before .before in
-    let at-loop = at-if1 .before .before .before in
-    at-loop .loop .i + 1 < length (at-loop .before .before .before .args .s .now)
+next : (c : tie.After-enum-told Inv-loop μ-loop) → let l = at-loop c in l .loop .i + 1 < length (l .before .before .before .args .s .now)
 next c =
     let at-if1 = c .before .before .before .before in
-    omega (arith, at-if1 .before .before .loop-test .taken, at-if1 .before .before .before .before .last-of .ensures)
+    omega (arith, at-if1 .before .before .loop-test .taken, at-loop c .before .last-of .ensures)
 
 passed : (c : tie.After-enum-told Inv-loop μ-loop) →
-    let at-if1 = c .before .before .before .before in
-    let at-loop = at-if1 .before .before .before in
-    let a = at-loop .before .before .before .args in
-    let l = at-loop .loop in
-    Escaped (a .quoted) (a .s .now) (a .at) (l .i + 2) (l .n + 1)
+    let l = at-loop c in
+    let a = l .before .before .before .args in
+    Escaped (a .quoted) (a .s .now) (a .at) (l .loop .i + 2) (l .loop .n + 1)
 passed c =
-    let at-if1 = c .before .before .before .before in
-    escaped-on _ _ _ _ _ _ (at-if1 .before .before .before .loop .inv) (at-if1 .if1 .left)
-    (sym (c .before .before .escape-of .ensures) ∙ c .enum-told .given .1)
+    let e = sym (c .before .before .escape-of .ensures) ∙ c .enum-told .given .1 in
+    escaped-on _ _ _ _ _ _ (at-loop c .loop .inv) (c .before .before .before .before .if1 .left) e
 
 add-i : tie.Need-add-i Inv-loop μ-loop
 add-i c = omega (arith, next c)
 
 add-n : tie.Need-add-n Inv-loop μ-loop
 add-n c =
-    let at-if1 = c .before .before .before .before in
-    let at-last-of = at-if1 .before .before .before .before in
-    let a = at-last-of .before .before .args in
+    let a = at-loop c .before .before .before .args in
     omega (arith, passed c .count, bytes-length (a .quoted) (a .s .now) (a .at))
 
 loop-less : tie.Need-loop-less Inv-loop μ-loop

@@ -61,35 +61,30 @@ returns-2 c =
     let at-loop = at-if1 .before .before .before in
     (at-loop .loop .inv .0, (at-loop .loop .inv .1, λ e. sym (c .before .before .escape-of .ensures) ∙ c .enum-told .given .1))
 
+-- where the turn began, from behind an escape
+abbrev at-loop : tie.After-known-told Inv-loop μ-loop → tie.At-loop Inv-loop μ-loop
+at-loop c = let at-read = c .before .before .before .before in at-read .before .before .before .before
+
 -- at an escape: that it stands within the text, what it stands for, and that there is room for it
-next : (c : tie.After-known-told Inv-loop μ-loop) →
-    let at-read = c .before .before .before .before in
-    let at-loop = at-read .before .before .before .before in
-    at-loop .loop .i + 1 < length (at-loop .before .before .before .before .args .s .now)
+next : (c : tie.After-known-told Inv-loop μ-loop) → let l = at-loop c in l .loop .i + 1 < length (l .before .before .before .before .args .s .now)
 next c =
     let at-escape-of = c .before .before .before in
     let at-loop-test = at-escape-of .before .before .before .before in
     omega (arith, at-loop-test .loop-test .taken, at-loop-test .before .before .last-of .ensures)
 
 escaped : (c : tie.After-known-told Inv-loop μ-loop) →
-    let at-read = c .before .before .before .before in
-    let at-loop = at-read .before .before .before .before in
-    let entry = at-loop .before .before .before .before in
-    let q = bytesAt (entry .args .quoted) (entry .args .s .now) in
-    q (at-loop .loop .i) ≡ c .before .c .given .0 .0 ∷ q (at-loop .loop .i + 2)
+    let l = at-loop c in
+    let a = l .before .before .before .before .args in
+    let q = bytesAt (a .quoted) (a .s .now) in
+    q (l .loop .i) ≡ c .before .c .given .0 .0 ∷ q (l .loop .i + 2)
 escaped c =
     let at-escape-of = c .before .before .before in
     bytes-escape _ _ _ (at-escape-of .before .before .if1 .left) _ (sym (at-escape-of .escape-of .ensures) ∙ c .before .c .given .1)
 
-room : (c : tie.After-known-told Inv-loop μ-loop) →
-    let at-read = c .before .before .before .before in
-    let at-loop = at-read .before .before .before .before in
-    at-loop .loop .n < length (at-loop .loop .store)
+room : (c : tie.After-known-told Inv-loop μ-loop) → let l = at-loop c in l .loop .n < length (l .loop .store)
 room c =
-    let at-read = c .before .before .before .before in
-    let at-loop = at-read .before .before .before .before in
-    let w = at-loop .loop .inv .0 in
-    omega (arith, w .count, w .size, at-loop .before .before .before .before .pre .fits, ap length (escaped c))
+    let w = at-loop c .loop .inv .0 in
+    omega (arith, w .count, w .size, at-loop c .before .before .before .before .pre .fits, ap length (escaped c))
 
 slice-write-store : tie.Need-slice-write-store Inv-loop μ-loop
 slice-write-store c = omega (arith, room c)
@@ -104,10 +99,7 @@ loop-less : tie.Need-loop-less Inv-loop μ-loop
 loop-less c = omega (arith, next c)
 
 loop-again : tie.Need-loop-again Inv-loop μ-loop
-loop-again c =
-    let at-read = c .before .before .before .before in
-    let at-loop = at-read .before .before .before .before in
-    (writing-byte _ _ (escaped c) (at-loop .loop .inv .0), omega (arith, at-loop .loop .inv .1))
+loop-again c = let l = at-loop c .loop in (writing-byte _ _ (escaped c) (l .inv .0), omega (arith, l .inv .1))
 
 same-length-3 : tie.Need-same-length-3 Inv-loop μ-loop
 same-length-3 c = c .before .loop .inv .0 .size

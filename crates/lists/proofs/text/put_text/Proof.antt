@@ -10,7 +10,7 @@ use Rattle.scan.specs.RunLaws.{runAt-le}
 use Rattle.store.specs.Sevens.{named}
 use Rattle.store.specs.Splice.{Room, put-then, room-first, room-next}
 use Rattle.lists.specs.Text.{own, bytesAt}
-use Rattle.lists.specs.TextLaws.{run-length, bytes-run, bytes-count, bytes-length, bytes-whole}
+use Rattle.lists.specs.TextLaws.{run-length, bytes-run-to, bytes-count, bytes-length, bytes-whole}
 use borrow.Author.Needs.{needs}
 use Rattle.lists.proofs.text.put_text.Statement.{statement}
 use Rattle.lists.proofs.text.put_text.Tie as tie
@@ -84,16 +84,13 @@ runs : (c : tie.After-own-end) →
     let a = c .before .before .before .args in
     let j = c .own-end .result in
     bytesAt (a .quoted) (a .s .now) (a .at) ≡ partOf (a .s .now) (a .at) j ++ bytesAt (a .quoted) (a .s .now) j
-runs c = rw (c .own-end .ensures) (bytes-run _ _ _)
+runs c = bytes-run-to _ _ _ _ (c .own-end .ensures)
 
 counted : (c : tie.After-text-size) →
     let at-own-end = c .before .before .before in
     let entry = at-own-end .before .before .before in
     at-own-end .own-end .result - entry .args .at + c .text-size .result ≡ length (bytesAt (entry .args .quoted) (entry .args .s .now) (entry .args .at))
-counted c =
-    let at-own-end = c .before .before .before in
-    let entry = at-own-end .before .before .before in
-    rw (c .text-size .ensures, at-own-end .own-end .ensures) (sym (bytes-count (entry .args .quoted) (entry .args .s .now) (entry .args .at)))
+counted c = rw (c .text-size .ensures) (sym (bytes-count _ _ _ _ (c .before .before .before .own-end .ensures)))
 
 room : (c : tie.After-put-number2) →
     let at-byte-at = c .before .before .before .before in

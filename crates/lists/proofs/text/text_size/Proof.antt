@@ -6,7 +6,7 @@ use native.Mathlib.Omega.{arith}
 use lib.ListN.{length}
 use Rattle.scan.specs.RunLaws.{runAt-le, byte-inside}
 use Rattle.lists.specs.Text.{own, bytesAt}
-use Rattle.lists.specs.TextLaws.{bytes-count, bytes-length, Stands, run-stands, bytes-stop, bytes-stuck}
+use Rattle.lists.specs.TextLaws.{bytes-count, bytes-length, bytes-run-end, bytes-stuck}
 use borrow.Author.Needs.{needs}
 use Rattle.lists.proofs.text.text_size.Statement.{statement}
 use Rattle.lists.proofs.text.text_size.Tie as tie
@@ -30,13 +30,11 @@ own-end-requires c κs = search needs
 left : (c : tie.After-own-end Inv-loop μ-loop) →
     let a = c .before .before .before .before .args in
     let e = c .before .past-escapes .result in
-    c .before .before .loop .n + (e .n + (c .own-end .result - e .at)) + length (bytesAt (a .quoted) (a .s .now) (c .own-end .result)) ≡ length (bytesAt (a .quoted) (a .s .now) (a .at))
+    let q = bytesAt (a .quoted) (a .s .now) in
+    c .before .before .loop .n + (e .n + (c .own-end .result - e .at)) + length (q (c .own-end .result)) ≡ length (q (a .at))
 left c =
-    let a = c .before .before .before .before .args in
-    let e = c .before .past-escapes in
-    let f : length (bytesAt (a .quoted) (a .s .now) (e .result .at)) ≡ c .own-end .result - e .result .at + length (bytesAt (a .quoted) (a .s .now) (c .own-end .result)) =
-    rw (c .own-end .ensures) (bytes-count (a .quoted) (a .s .now) (e .result .at)) in
-    omega (arith, c .before .before .loop .inv, e .ensures .0 .count)
+    let e = c .before .past-escapes .ensures .0 in
+    omega (arith, c .before .before .loop .inv, e .count, bytes-count _ _ _ _ (c .own-end .ensures))
 
 sub-n : tie.Need-sub-n Inv-loop μ-loop
 sub-n c =
@@ -63,25 +61,17 @@ returns : tie.Need-returns Inv-loop μ-loop
 returns c =
     let at-own-end = c .before .before .before .before in
     let a = at-own-end .before .before .before .before .args in
-    let n : Stands (a .quoted) (a .s .now) (at-own-end .own-end .result) =
-    rw (at-own-end .own-end .ensures) (run-stands (a .quoted) (a .s .now) (at-own-end .before .past-escapes .result .at)) in
-    omega (
-      arith,
-      left at-own-end,
-      ap length (bytes-stop (a .quoted) (a .s .now) (at-own-end .own-end .result) n (λ e. c .if1 .taken (c .before .byte-at .ensures ∙ e))),
-    )
+    let stop = bytes-run-end (a .quoted) (a .s .now) _ _ (at-own-end .own-end .ensures) (λ e. c .if1 .taken (c .before .byte-at .ensures ∙ e)) in
+    omega (arith, left at-own-end, ap length stop)
 
 returns-2 : tie.Need-returns-2 Inv-loop μ-loop
 returns-2 c =
     let at-byte-at = c .before .before .before in
-    let at-past-escapes = at-byte-at .before .before .before .before in
-    let entry = at-past-escapes .before .before .before in
+    let at-own-end = at-byte-at .before .before .before in
+    let a = at-own-end .before .before .before .before .args in
     let b = sym (at-byte-at .byte-at .ensures) ∙ c .before .before .if1 .left in
-    omega (
-      arith,
-      left (at-byte-at .before .before .before),
-      ap length (bytes-stuck (entry .args .quoted) (entry .args .s .now) _ _ (c .if2 .taken) (at-past-escapes .past-escapes .ensures .1) b),
-    )
+    let stuck = bytes-stuck (a .quoted) (a .s .now) _ _ (c .if2 .taken) (at-own-end .before .past-escapes .ensures .1) b in
+    omega (arith, left at-own-end, ap length stuck)
 
 loop-less : tie.Need-loop-less Inv-loop μ-loop
 loop-less c =
@@ -93,9 +83,7 @@ loop-less c =
     omega (arith, b, c .if2 .left, e .ensures .0 .later, at-own-end .own-end .ensures, runAt-le (own (a .quoted)) (a .s .now) (e .result .at))
 
 loop-again : tie.Need-loop-again Inv-loop μ-loop
-loop-again c =
-    let at-byte-at = c .before .before .before in
-    omega (arith, left (at-byte-at .before .before .before))
+loop-again c = let at-byte-at = c .before .before .before in omega (arith, left (at-byte-at .before .before .before))
 
 pub text-size-spec : {M : Type 1} → statement M
 text-size-spec =
