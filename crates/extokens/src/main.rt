@@ -3,10 +3,10 @@
 use libc::STDIN_FILENO;
 use libc::STDOUT_FILENO;
 use scan::part::part;
+use scanner::token::Position;
 use scanner::token::Token;
 use scanner::token::TokenKind;
-use scanner::token::argument_start;
-use scanner::token::token_from;
+use scanner::token::step;
 
 fn print_kind(k: TokenKind) {
     match k {
@@ -18,6 +18,7 @@ fn print_kind(k: TokenKind) {
         TokenKind::Text => io::write_all(STDOUT_FILENO, b"text"),
         TokenKind::Quoted => io::write_all(STDOUT_FILENO, b"quoted"),
         TokenKind::Newline => io::write_all(STDOUT_FILENO, b"newline"),
+        TokenKind::Unlisted => io::write_all(STDOUT_FILENO, b"unlisted"),
         TokenKind::Left => io::write_all(STDOUT_FILENO, b"left"),
         TokenKind::End => io::write_all(STDOUT_FILENO, b"end"),
     }
@@ -35,12 +36,12 @@ fn print_token(t: Token) {
 }
 
 fn print_tokens(line: &[u8]) {
-    let argument = argument_start(line);
-    let mut at: usize = 0;
-    while at < line.len() {
-        let t = token_from(line, at, argument);
+    let mut here = step(line, Position::Lead(0));
+    while here.token.start < line.len() {
+        let t = here.token;
         print_token(t);
-        at = t.stop;
+        let position = here.position;
+        here = step(line, position);
     }
 }
 

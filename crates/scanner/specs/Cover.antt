@@ -3,7 +3,7 @@
 use mathlib.Core.Path.{_≡_}
 use Prim.Native.Nat.{ℕ, _<_, _≤_}
 use mathlib.Core.Bool.{true, false, cond}
-use mathlib.Core.List.{List, [], _∷_, _++_}
+use mathlib.Core.List.{List, [], _∷_, _++_, List·Memᴰ}
 use lib.Dec.{eqb, ltb}
 use lib.ListN.{length}
 use Rattle.scan.specs.Scan.{partOf}
@@ -15,6 +15,12 @@ use Rattle.scanner.specs.declared.token.Token.{Token}
 abbrev pub Covers : ℕ → ℕ → List Token → Type 0
 Covers i e [] = i ≡ e
 Covers i e (t ∷ ts) = (t .start ≡ i) × (i < t .stop) × Covers (t .stop) e ts
+
+-- t is one of the tokens, and the place i stands in it
+pub record CoveredBy (ts : List Token) (i : ℕ) (t : Token) : Type 0 where
+  pub listed : List·Memᴰ t ts
+  pub from : t .start ≤ i
+  pub to : i < t .stop
 
 -- the bytes of s that tokens name, one token after the other
 unfoldable pub bytesOf : List ℕ → List Token → List ℕ
@@ -31,8 +37,9 @@ kindNo TokenKind.Space = 4
 kindNo TokenKind.Text = 5
 kindNo TokenKind.Quoted = 6
 kindNo TokenKind.Newline = 7
-kindNo TokenKind.Left = 8
-kindNo TokenKind.End = 9
+kindNo TokenKind.Unlisted = 8
+kindNo TokenKind.Left = 9
+kindNo TokenKind.End = 10
 
 -- the tokens of one kind, in their order
 unfoldable pub ofKind : TokenKind → List Token → List Token

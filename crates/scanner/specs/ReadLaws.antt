@@ -17,7 +17,7 @@ use Rattle.reading.specs.Line.{skipByte, startOf, readingOf}
 use Rattle.reading.specs.LineLaws.{Parsed, parsed}
 use Rattle.reading.specs.declared.line.CommandDescription.{CommandDescription}
 use Rattle.reading.specs.declared.line.CommandRead.{CommandRead}
-use Rattle.scanner.specs.Tokens.{token, leadWord, leadOf, Piece, pieces, upTo, pieceAt, parted, newlineToken, itemToken, argumentToken, tokenAt, tokensFrom, tokensAt, tokensOf}
+use Rattle.scanner.specs.Tokens.{token, endToken, leadWord, leadOf, Piece, pieces, upTo, pieceAt, parted, newlineToken, itemToken, argumentToken, tokenAt, tokensFrom, tokensAt, tokensOf}
 use Rattle.scanner.specs.Cover.{kindNo, ofKind, some}
 use Rattle.scanner.specs.LeadLaws.{Upto, upto-le, lead-inside, lead-upto, lead-parsed}
 use Rattle.scanner.specs.TokensLaws.{token-good, from-end, from-on, tokens-on}
@@ -107,12 +107,13 @@ argument-kind s i = go (leb (length s) i) (isSpace (byteAt s i)) (eqb (byteAt s 
     item TextEnd.Bad = omega arith
     item (TextEnd.End j) = by-end (parted s j) (eqb (byteAt s i) 0x22)
       where
-        by-end : (a b : Bool) → 4 ≤ kindNo (cond a (cond b (token TokenKind.Quoted i j) (token TokenKind.Text i j)) (token TokenKind.Left i (runAt isText s i)) .kind)
+        by-end : (a b : Bool) → 4 ≤ kindNo (cond a (cond b (token TokenKind.Quoted i j) (token TokenKind.Text i j)) (token TokenKind.Unlisted i (runAt isText s i)) .kind)
         by-end true true = omega arith
         by-end true false = omega arith
         by-end false b = omega arith
 
-    go : (a b c d : Bool) (t : TextEnd) → 4 ≤ kindNo (cond a (token TokenKind.End i i) (cond b (token TokenKind.Space i (runAt isSpace s i)) (cond c (cond d (token TokenKind.Newline i (i + 1)) (token TokenKind.Left i (length s))) (itemToken s i t))) .kind)
+    go : (a b c d : Bool) (t : TextEnd) → 4 ≤ kindNo (cond a (endToken s) (cond b (token TokenKind.Space i (runAt isSpace s i))
+        (cond c (cond d (token TokenKind.Newline i (i + 1)) (token TokenKind.Left i (length s))) (itemToken s i t))) .kind)
     go true b c d t = omega arith
     go false true c d t = omega arith
     go false false true true t = omega arith
@@ -195,18 +196,29 @@ module _ (s : List ℕ) (d : CommandDescription) (h : readingOf s ≡ CommandRea
   unfolding leadWord
   argument-read = ap (λ (l : Lead). l .argument) (lead-parsed s d read) ∙ read .argued
 
-  -- nothing of the lead is left over
-  lead-whole : ofKind TokenKind.Left (tokensIn 0 (pieces (leadOf s))) ≡ []
+  -- nothing of the lead is left over, and nothing of it is of an argument that is no list
+  lead-left : ofKind TokenKind.Left (tokensIn 0 (pieces (leadOf s))) ≡ []
   unfolding pieces piecesOf kindNo leadWord
-  lead-whole =
+  lead-left =
       pieces-kind TokenKind.Left 0 (pieces (leadOf s))
       ∙ append-nil (some TokenKind.Left (leadOf s .blank) (leadOf s .argument))
       ∙ ap (λ (l : Lead). some TokenKind.Left (l .blank) (l .argument)) (lead-parsed s d read)
       ∙ some-none TokenKind.Left (runAt isSpace s (skipByte s (read .next) 0x21))
 
+  lead-unlisted : ofKind TokenKind.Unlisted (tokensIn 0 (pieces (leadOf s))) ≡ []
+  unfolding pieces piecesOf kindNo
+  lead-unlisted = pieces-kind TokenKind.Unlisted 0 (pieces (leadOf s))
+
+  -- of a kind that the lead has not, the tokens are those of the argument and of what stands behind it
+  kind-behind : (k : TokenKind) → ofKind k (tokensIn 0 (pieces (leadOf s))) ≡ [] → ofKind k (tokensOf s) ≡ ofKind k (tokensAt s (d .argument))
+  kind-behind k h =
+      ap (ofKind k) (lead-tokens s)
+      ∙ kind-append k (tokensIn 0 (pieces (leadOf s))) (tokensAt s (leadOf s .argument))
+      ∙ ap (λ (ts : List Token). ts ++ ofKind k (tokensAt s (leadOf s .argument))) h
+      ∙ ap (λ (n : ℕ). ofKind k (tokensAt s n)) argument-read
+
   pub left-behind : ofKind TokenKind.Left (tokensOf s) ≡ ofKind TokenKind.Left (tokensAt s (d .argument))
-  left-behind =
-      ap (ofKind TokenKind.Left) (lead-tokens s)
-      ∙ kind-append TokenKind.Left (tokensIn 0 (pieces (leadOf s))) (tokensAt s (leadOf s .argument))
-      ∙ ap (λ (ts : List Token). ts ++ ofKind TokenKind.Left (tokensAt s (leadOf s .argument))) lead-whole
-      ∙ ap (λ (n : ℕ). ofKind TokenKind.Left (tokensAt s n)) argument-read
+  left-behind = kind-behind TokenKind.Left lead-left
+
+  pub unlisted-behind : ofKind TokenKind.Unlisted (tokensOf s) ≡ ofKind TokenKind.Unlisted (tokensAt s (d .argument))
+  unlisted-behind = kind-behind TokenKind.Unlisted lead-unlisted

@@ -1,5 +1,5 @@
--- Where tokens stop: none that starts before the argument's end goes past it, since no item holds a 0x0A.
--- Look for `item-stop`, `argument-stop`, `line-stop`. Assumes nothing.
+-- Where tokens stop: none that starts before the argument's end goes past it, since no item holds a 0x0A; and none of the argument is
+-- left over. Look for `item-stop`, `line-stop`, `line-kind`. Assumes nothing.
 use mathlib.Core.Path.{_≡_, refl, _∙_, sym, ap}
 use mathlib.Core.Bool.{Bool, true, false, cond, not, false≢true}
 use mathlib.Core.List.{List, [], _∷_}
@@ -8,16 +8,17 @@ use native.Mathlib.Omega.{arith}
 use native.Mathlib.Decide.{decLt}
 use lib.Dec.{eqb, leb}
 use lib.ListN.{length, drop}
-use borrow.Author.Tests.{eqb-true}
+use borrow.Author.Tests.{eqb-true, lt-leb}
 use Rattle.scan.specs.Bytes.{isSpace, isText, isPlain, isQuoted}
 use Rattle.scan.specs.Scan.{runFrom, runAt, byteAt}
-use Rattle.scan.specs.RunLaws.{run-yes, run-no, run-le, runAt-on, runAt-le, runAt-ends, runAt-starts, runAt-later, byte-inside}
+use Rattle.scan.specs.RunLaws.{run-yes, run-no, run-le, runAt-on, runAt-le, runAt-within, runAt-ends, runAt-starts, runAt-later, byte-inside}
 use Rattle.lists.specs.Text.{quotedEscape, plainEscape, escapeOf, own, stopAt, textEndFrom, textEndAt}
 use Rattle.lists.specs.Lists.{itemOf, itemAt}
 use Rattle.lists.specs.declared.text.Escape.{Escape}
 use Rattle.lists.specs.declared.text.TextEnd.{TextEnd}
-use Rattle.scanner.specs.Tokens.{token, leadOf, pieces, parted, itemToken, argumentToken, tokenAt}
-use Rattle.scanner.specs.LeadLaws.{piece-good, lead-upto}
+use Rattle.scanner.specs.Tokens.{token, endToken, leadOf, pieces, parted, itemToken, argumentToken, tokenAt}
+use Rattle.scanner.specs.Cover.{kindNo}
+use Rattle.scanner.specs.LeadLaws.{piece-good, lead-inside, lead-upto}
 use Rattle.scanner.specs.ReadLaws.{token-lead, token-behind}
 use Rattle.scanner.specs.declared.token.TokenKind.{TokenKind}
 
@@ -160,20 +161,45 @@ module _ (s : List ℕ) (i : ℕ) where
   token-stop TextEnd.Bad h = omega arith
   token-stop (TextEnd.End j) h = go (parted s j) (eqb (byteAt s i) 0x22)
     where
-      go : (a b : Bool) → cond a (cond b (token TokenKind.Quoted i j) (token TokenKind.Text i j)) (token TokenKind.Left i (runAt isText s i)) .stop ≤ runAt isText s i
+      go : (a b : Bool) → cond a (cond b (token TokenKind.Quoted i j) (token TokenKind.Text i j)) (token TokenKind.Unlisted i (runAt isText s i)) .stop ≤ runAt isText s i
       go true true = omega arith
       go true false = omega arith
       go false b = omega arith
 
   -- and so does each token of an argument that starts before it
-  argument-stop : i < runAt isText s i → argumentToken s i .stop ≤ runAt isText s i
+  argument-stop : i < runAt isText s i → i < length s → argumentToken s i .stop ≤ runAt isText s i
   unfolding argumentToken
-  argument-stop h = rw (no-newline (byteAt s i) (runAt-starts isText s i h)) (go (leb (length s) i) (isSpace (byteAt s i)))
+  argument-stop h k = rw (no-newline (byteAt s i) (runAt-starts isText s i h), lt-leb (length s) i k) (go (isSpace (byteAt s i)))
     where
-      go : (a b : Bool) → cond a (token TokenKind.End i i) (cond b (token TokenKind.Space i (runAt isSpace s i)) (itemToken s i (itemAt s i))) .stop ≤ runAt isText s i
-      go true b = runAt-le isText s i
-      go false true = space-stop s i
-      go false false = token-stop (itemAt s i) (item-stop s i)
+      go : (b : Bool) → cond b (token TokenKind.Space i (runAt isSpace s i)) (itemToken s i (itemAt s i)) .stop ≤ runAt isText s i
+      go true = space-stop s i
+      go false = token-stop (itemAt s i) (item-stop s i)
+
+  -- none of them is left over
+  text-kind : i < runAt isText s i → eqb (kindNo (argumentToken s i .kind)) (kindNo TokenKind.Left) ≡ false
+  unfolding argumentToken itemToken kindNo
+  text-kind h = rw (no-newline (byteAt s i) (runAt-starts isText s i h)) (go (leb (length s) i) (isSpace (byteAt s i)) (itemAt s i))
+    where
+      item : (t : TextEnd) → eqb (kindNo (itemToken s i t .kind)) (kindNo TokenKind.Left) ≡ false
+      item TextEnd.Bad = refl
+      item (TextEnd.End j) = ends (parted s j) (eqb (byteAt s i) 0x22)
+        where
+          ends : (a b : Bool) → eqb (kindNo (cond a (cond b (token TokenKind.Quoted i j) (token TokenKind.Text i j)) (token TokenKind.Unlisted i (runAt isText s i)) .kind)) (kindNo TokenKind.Left) ≡ false
+          ends true true = refl
+          ends true false = refl
+          ends false b = refl
+
+      go : (a b : Bool) (t : TextEnd) → eqb (kindNo (cond a (endToken s) (cond b (token TokenKind.Space i (runAt isSpace s i)) (itemToken s i t)) .kind)) (kindNo TokenKind.Left) ≡ false
+      go true b t = refl
+      go false true t = refl
+      go false false t = item t
+
+-- no token of the argument is left over
+pub line-kind : (s : List ℕ) (e : ℕ) → runAt isText s (leadOf s .argument) ≡ e → (i : ℕ) → leadOf s .argument ≤ i → i < e →
+    eqb (kindNo (tokenAt s i .kind)) (kindNo TokenKind.Left) ≡ false
+line-kind s e r i h k =
+    let w : runAt isText s i ≡ e = runAt-later isText s (leadOf s .argument) i h (omega arith) ∙ r in
+    rw (token-behind s i h) (text-kind s i (omega arith))
 
 -- no token of the line that starts before the argument's end goes past it
 pub line-stop : (s : List ℕ) (e : ℕ) → runAt isText s (leadOf s .argument) ≡ e → (i : ℕ) → i < e → tokenAt s i .stop ≤ e
@@ -188,4 +214,5 @@ line-stop s e r i k = go (decLt i (leadOf s .argument))
         rw (token-lead s i l) (omega (arith, g .inside, r, runAt-le isText s a))
     go (no l) =
         let w : runAt isText s i ≡ e = runAt-later isText s a i (omega arith) (omega arith) ∙ r in
-        rw (token-behind s i (omega arith)) (omega (arith, argument-stop s i (omega arith), w))
+        let m : i < length s = omega (arith, r, runAt-within isText s a (lead-inside s)) in
+        rw (token-behind s i (omega arith)) (omega (arith, argument-stop s i (omega arith) m, w))

@@ -1,5 +1,5 @@
 -- The tokens of a line cover it: one token, the tokens one after the other, and the bytes that they name.
--- Look for `token-from`, `tokens-cover`, `tokens-bytes`. Assumes nothing.
+-- Look for `token-good`, `tokens-cover`, `tokens-bytes`. Assumes nothing.
 use mathlib.Core.Path.{_≡_, refl, _∙_, sym, ap}
 use mathlib.Core.Bool.{Bool, true, false, cond}
 use mathlib.Core.List.{List, [], _∷_, _++_}
@@ -16,22 +16,13 @@ use Rattle.scan.specs.RunLaws.{runAt-le, runAt-on, runAt-within}
 use Rattle.lists.specs.Lists.{itemAt}
 use Rattle.lists.specs.ListLaws.{item-in}
 use Rattle.lists.specs.declared.text.TextEnd.{TextEnd}
-use Rattle.scanner.specs.Tokens.{token, leadOf, pieces, pieceAt, parted, newlineToken, itemToken, argumentToken, tokenAt, tokenFrom, tokensFrom, tokensAt, tokensOf}
+use Rattle.scanner.specs.Tokens.{token, endToken, leadOf, pieces, pieceAt, parted, newlineToken, itemToken, argumentToken, tokenAt, tokensFrom, tokensAt, tokensOf}
 use Rattle.scanner.specs.Cover.{Covers, bytesOf}
 use Rattle.scanner.specs.LeadLaws.{Good, piece-good, lead-inside, lead-upto}
 use Rattle.scanner.specs.declared.token.TokenKind.{TokenKind}
 use Rattle.scanner.specs.declared.token.Token.{Token}
 
 -- one token --------------------------------------------------------------------------------------------------------------------------
-
--- to a scanner that knows where the argument starts, the tokens are those of the line
-pub token-from : (s : List ℕ) (i : ℕ) → tokenFrom s i (leadOf s .argument) ≡ tokenAt s i
-unfolding tokenFrom tokenAt
-token-from s i = go (ltb i (leadOf s .argument)) (pieceAt (pieces (leadOf s)) i) (argumentToken s i)
-  where
-    go : (b : Bool) (t u : Token) → cond b (cond b t u) u ≡ cond b t u
-    go true t u = refl
-    go false t u = refl
 
 text-byte : (b : ℕ) → eqb b 0x0A ≡ false → isText b ≡ true
 unfolding isText
@@ -44,20 +35,21 @@ module _ (s : List ℕ) (i : ℕ) (h : i < length s) where
 
   item-good : (t : TextEnd) → itemAt s i ≡ t → eqb (byteAt s i) 0x0A ≡ false → Good i (length s) (itemToken s i t)
   unfolding itemToken
-  item-good TextEnd.Bad e f = run-good isText TokenKind.Left (text-byte (byteAt s i) f)
+  item-good TextEnd.Bad e f = run-good isText TokenKind.Unlisted (text-byte (byteAt s i) f)
   item-good (TextEnd.End j) e f = go (parted s j) (eqb (byteAt s i) 0x22)
     where
-      go : (a b : Bool) → Good i (length s) (cond a (cond b (token TokenKind.Quoted i j) (token TokenKind.Text i j)) (token TokenKind.Left i (runAt isText s i)))
+      go : (a b : Bool) → Good i (length s) (cond a (cond b (token TokenKind.Quoted i j) (token TokenKind.Text i j)) (token TokenKind.Unlisted i (runAt isText s i)))
       go true true = let r = item-in s i j e in record { starts = refl; past = r .after; inside = r .within }
       go true false = let r = item-in s i j e in record { starts = refl; past = r .after; inside = r .within }
-      go false b = run-good isText TokenKind.Left (text-byte (byteAt s i) f)
+      go false b = run-good isText TokenKind.Unlisted (text-byte (byteAt s i) f)
 
-  argument-good : Good i (length s) (argumentToken s i)
+  pub argument-good : Good i (length s) (argumentToken s i)
   unfolding argumentToken newlineToken
   argument-good = go (leb (length s) i) (isSpace (byteAt s i)) (eqb (byteAt s i) 0x0A) (eqb (i + 1) (length s)) refl refl refl
     where
       go : (a b c d : Bool) → leb (length s) i ≡ a → isSpace (byteAt s i) ≡ b → eqb (byteAt s i) 0x0A ≡ c →
-          Good i (length s) (cond a (token TokenKind.End i i) (cond b (token TokenKind.Space i (runAt isSpace s i)) (cond c (cond d (token TokenKind.Newline i (i + 1)) (token TokenKind.Left i (length s))) (itemToken s i (itemAt s i)))))
+          Good i (length s) (cond a (endToken s) (cond b (token TokenKind.Space i (runAt isSpace s i))
+          (cond c (cond d (token TokenKind.Newline i (i + 1)) (token TokenKind.Left i (length s))) (itemToken s i (itemAt s i)))))
       go true b c d p q r = absurd (omega (arith, leb-true (length s) i p))
       go false true c d p q r = run-good isSpace TokenKind.Space q
       go false false true true p q r = record { starts = refl; past = omega arith; inside = omega arith }
@@ -74,15 +66,6 @@ module _ (s : List ℕ) (i : ℕ) (h : i < length s) where
           let g = piece-good 0 (leadOf s .argument) i (pieces (leadOf s)) (lead-upto s) (omega arith) (ltb-true i (leadOf s .argument) e) in
           record { starts = g .starts; past = g .past; inside = omega (arith, g .inside, lead-inside s) }
       go false e = argument-good
-
-  -- and so whatever a scanner takes for the argument's start: before the end it always moves on
-  pub from-good : (g : ℕ) → Good i (length s) (tokenFrom s i g)
-  unfolding tokenFrom
-  from-good g = go (ltb i g)
-    where
-      go : (b : Bool) → Good i (length s) (cond b (tokenAt s i) (argumentToken s i))
-      go true = token-good
-      go false = argument-good
 
 -- the tokens, one after the other ------------------------------------------------------------------------------------------------------
 
@@ -137,7 +120,7 @@ module _ (s : List ℕ) where
 
 -- the bytes that they name -------------------------------------------------------------------------------------------------------------
 
-covers-le : (i e : ℕ) (ts : List Token) → Covers i e ts → i ≤ e
+pub covers-le : (i e : ℕ) (ts : List Token) → Covers i e ts → i ≤ e
 covers-le i e [] h = omega arith
 covers-le i e (t ∷ ts) h =
     let p = h .1 in

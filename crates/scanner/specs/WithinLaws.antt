@@ -1,8 +1,8 @@
--- What is left over of a line whose reading is accepted: nothing but what stands within its argument.
--- Look for `command-left`. Assumes nothing.
+-- A line whose reading is accepted: nothing is left over, and what is of no list stands within its argument.
+-- Look for `command-left`, `command-unlisted`. Assumes nothing.
 use mathlib.Core.Path.{_≡_, refl, _∙_, sym, ap, subst}
 use mathlib.Core.Bool.{Bool, true, false}
-use mathlib.Core.List.{List, _∷_}
+use mathlib.Core.List.{List, [], _∷_}
 use Prim.Native.Nat.{ℕ, zero, suc, _+_, _-_, _<_, _≤_}
 use native.Mathlib.Omega.{arith}
 use native.Mathlib.Decide.{decLt}
@@ -20,8 +20,8 @@ use Rattle.scanner.specs.Tokens.{token, leadOf, newlineToken, argumentTo
 use Rattle.scanner.specs.Cover.{Within, kindNo, ofKind}
 use Rattle.scanner.specs.LeadLaws.{lead-inside}
 use Rattle.scanner.specs.TokensLaws.{token-good, from-end, from-on}
-use Rattle.scanner.specs.ReadLaws.{token-behind, left-behind, argument-read}
-use Rattle.scanner.specs.StopLaws.{line-end, line-stop}
+use Rattle.scanner.specs.ReadLaws.{token-behind, left-behind, unlisted-behind, argument-read}
+use Rattle.scanner.specs.StopLaws.{line-end, line-stop, line-kind}
 use Rattle.scanner.specs.declared.token.TokenKind.{TokenKind}
 use Rattle.scanner.specs.declared.token.Token.{Token}
 
@@ -44,39 +44,76 @@ module _ (s : List ℕ) (e : ℕ) (r : runAt isText s (leadOf s .argument) ≡ e
       token-behind s e (omega (arith, r, runAt-le isText s (leadOf s .argument)))
       ∙ rw (lt-leb (length s) e h, b, eq-eqb (e + 1) (length s) n) (ap (token TokenKind.Newline e) n)
 
-  behind-left : (n : ℕ) → Within (leadOf s .argument) e (ofKind TokenKind.Left (tokensFrom (suc n) s e))
-  unfolding ofKind kindNo
-  behind-left n = go (decLt e (length s))
+  -- of all kinds but that one, nothing stands there
+  behind-none : (k : TokenKind) → eqb (kindNo TokenKind.Newline) (kindNo k) ≡ false → (n : ℕ) → ofKind k (tokensFrom (suc n) s e) ≡ []
+  unfolding ofKind
+  behind-none k f n = go (decLt e (length s))
     where
-      go : Dec (e < length s) → Within (leadOf s .argument) e (ofKind TokenKind.Left (tokensFrom (suc n) s e))
-      go (no k) = rw (from-end s (suc n) e (omega arith)) tt
-      go (yes k) = rw (from-on s n e k, behind-token k, from-end s n (length s) (omega arith)) tt
+      go : Dec (e < length s) → ofKind k (tokensFrom (suc n) s e) ≡ []
+      go (no l) = rw (from-end s (suc n) e (omega arith))
+      go (yes l) =
+          ap (ofKind k)
+          (from-on s n e l
+          ∙ ap (λ (t : Token). t ∷ tokensFrom n s (t .stop)) (behind-token l)
+          ∙ ap (λ (ts : List Token). token TokenKind.Newline e (length s) ∷ ts) (from-end s n (length s) (omega arith)))
+          ∙ rw (f, ofKind)
 
-  left-within : (n i : ℕ) → leadOf s .argument ≤ i → i ≤ e → Within (leadOf s .argument) e (ofKind TokenKind.Left (tokensFrom n s i))
-  unfolding ofKind tokensFrom
-  left-within zero i h l = tt
-  left-within (suc n) i h l = go (decLt i e) (left-within n (tokenAt s i .stop))
+  left-none : (n i : ℕ) → leadOf s .argument ≤ i → i ≤ e → ofKind TokenKind.Left (tokensFrom n s i) ≡ []
+  unfolding ofKind tokensFrom kindNo
+  left-none zero i h l = refl
+  left-none (suc n) i h l = go (decLt i e) (left-none n (tokenAt s i .stop))
     where
       a : ℕ
       a = leadOf s .argument
 
-      go : Dec (i < e) → (a ≤ tokenAt s i .stop → tokenAt s i .stop ≤ e → Within a e (ofKind TokenKind.Left (tokensFrom n s (tokenAt s i .stop)))) →
-          Within a e (ofKind TokenKind.Left (tokensFrom (suc n) s i))
-      go (no k) q = let w : e ≡ i = omega arith in subst (λ (m : ℕ). Within a e (ofKind TokenKind.Left (tokensFrom (suc n) s m))) w (behind-left n)
+      go : Dec (i < e) → (a ≤ tokenAt s i .stop → tokenAt s i .stop ≤ e → ofKind TokenKind.Left (tokensFrom n s (tokenAt s i .stop)) ≡ []) →
+          ofKind TokenKind.Left (tokensFrom (suc n) s i) ≡ []
+      go (no k) q = let w : e ≡ i = omega arith in subst (λ (m : ℕ). ofKind TokenKind.Left (tokensFrom (suc n) s m) ≡ []) w (behind-none TokenKind.Left refl n)
+      go (yes k) q =
+          let m : i < length s = omega (arith, r, runAt-within isText s a (lead-inside s)) in
+          let g = token-good s i m in
+          rw (from-on s n i m, line-kind s e r i h k, ofKind) (q (omega (arith, g .past)) (line-stop s e r i k))
+
+  unlisted-within : (n i : ℕ) → leadOf s .argument ≤ i → i ≤ e → Within (leadOf s .argument) e (ofKind TokenKind.Unlisted (tokensFrom n s i))
+  unfolding ofKind tokensFrom kindNo
+  unlisted-within zero i h l = tt
+  unlisted-within (suc n) i h l = go (decLt i e) (unlisted-within n (tokenAt s i .stop))
+    where
+      a : ℕ
+      a = leadOf s .argument
+
+      go : Dec (i < e) → (a ≤ tokenAt s i .stop → tokenAt s i .stop ≤ e → Within a e (ofKind TokenKind.Unlisted (tokensFrom n s (tokenAt s i .stop)))) →
+          Within a e (ofKind TokenKind.Unlisted (tokensFrom (suc n) s i))
+      go (no k) q =
+          let w : e ≡ i = omega arith in
+          subst (λ (m : ℕ). Within a e (ofKind TokenKind.Unlisted (tokensFrom (suc n) s m))) w (rw (behind-none TokenKind.Unlisted refl n) tt)
       go (yes k) q =
           let m : i < length s = omega (arith, r, runAt-within isText s a (lead-inside s)) in
           let g = token-good s i m in
           let p = line-stop s e r i k in
           rw (from-on s n i m)
-          (within-on a e TokenKind.Left (tokenAt s i) (tokensFrom n s (tokenAt s i .stop)) (omega (arith, g .starts)) p (q (omega (arith, g .past)) p))
+          (within-on a e TokenKind.Unlisted (tokenAt s i) (tokensFrom n s (tokenAt s i .stop)) (omega (arith, g .starts)) p (q (omega (arith, g .past)) p))
 
--- where the reading is accepted, what is left over starts in the argument and stops there
-pub command-left : (s : List ℕ) (d : CommandDescription) → readingOf s ≡ CommandRead.Command d → Within (d .argument) (d .stop) (ofKind TokenKind.Left (tokensOf s))
-unfolding tokensAt
-command-left s d h =
-    let p = parsed s d h in
-    let a = argument-read s d h in
-    let l = places s d p in
-    rw (left-behind s d h)
-    (subst (λ (n : ℕ). Within n (d .stop) (ofKind TokenKind.Left (tokensAt s n))) a
-    (left-within s (d .stop) (ap (runAt isText s) a ∙ p .stopped) (p .ended) (length s - leadOf s .argument) (leadOf s .argument) (omega arith) (omega (arith, l .stops))))
+module _ (s : List ℕ) (d : CommandDescription) (h : readingOf s ≡ CommandRead.Command d) where
+  -- where the argument ends
+  argument-ends : runAt isText s (leadOf s .argument) ≡ d .stop
+  argument-ends = ap (runAt isText s) (argument-read s d h) ∙ parsed s d h .stopped
+
+  -- where the reading is accepted, nothing is left over
+  pub command-left : ofKind TokenKind.Left (tokensOf s) ≡ []
+  unfolding tokensAt
+  command-left =
+      let p = parsed s d h in
+      let a = argument-read s d h in
+      left-behind s d h
+      ∙ left-none s (d .stop) argument-ends (p .ended) (length s - d .argument) (d .argument) (omega arith) (omega (arith, places s d p .stops))
+
+  -- and what is of no list starts in the argument and stops there
+  pub command-unlisted : Within (d .argument) (d .stop) (ofKind TokenKind.Unlisted (tokensOf s))
+  unfolding tokensAt
+  command-unlisted =
+      let p = parsed s d h in
+      let a = argument-read s d h in
+      rw (unlisted-behind s d h)
+      (subst (λ (n : ℕ). Within n (d .stop) (ofKind TokenKind.Unlisted (tokensAt s n))) a
+      (unlisted-within s (d .stop) argument-ends (p .ended) (length s - leadOf s .argument) (leadOf s .argument) (omega arith) (omega (arith, places s d p .stops))))

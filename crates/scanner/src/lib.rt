@@ -3,54 +3,50 @@
 // argument, which is the next reading's text.
 pub mod token;
 
+use token::Position;
 use token::Token;
-use token::argument_start;
-use token::token_from;
+use token::covering_token;
+use token::step;
 ghost use mathlib.Core.Path.{_≡_};
-ghost use Rattle.scanner.specs.Tokens.{leadOf, tokenAt, tokenFrom};
+ghost use Rattle.scanner.specs.Tokens.{stepAt, covering};
 
-// The line, the place of the next token, and where the line's argument starts: found once, so that the lead is not read again for each
-// token of the argument.
+// The line, and where the scanner stands.
 pub struct Scanner<'a> {
     pub line: &'a [u8],
-    pub at: usize,
-    pub argument: usize,
+    pub position: Position,
 }
 
 // A scanner at the line's start.
 pub fn new<'a>(line: &'a [u8]) -> Scanner<'a>
-    ensures { λ r. ⌜ (r .line ≡ line .entry) × (r .at ≡ 0) × (r .argument ≡ leadOf (now (line .entry)) .argument) ⌝ }
+    ensures { λ r. ⌜ (r .line ≡ line .entry) × (r .position ≡ Position.Lead 0) ⌝ }
 {
-    let argument = argument_start(line);
     Scanner {
         line,
-        at: 0,
-        argument,
+        position: Position::Lead(0),
     }
 }
 
 // The next token; the scanner moves past it. At the line's end it is `End`, and the scanner stays.
 pub fn next<'s, 'a>(s: &'s mut Scanner<'a>) -> Token
-    ensures { λ t. ⌜ (t ≡ tokenFrom (now (now (s .entry) .line)) (now (s .entry) .at) (now (s .entry) .argument))
+    ensures { λ t. ⌜ (t ≡ stepAt (now (now (s .entry) .line)) (now (s .entry) .position) .token)
         × (now (s .exit) .line ≡ now (s .entry) .line)
-        × (now (s .exit) .at ≡ tokenFrom (now (now (s .entry) .line)) (now (s .entry) .at) (now (s .entry) .argument) .stop)
-        × (now (s .exit) .argument ≡ now (s .entry) .argument) ⌝ }
+        × (now (s .exit) .position ≡ stepAt (now (now (s .entry) .line)) (now (s .entry) .position) .position) ⌝ }
 {
-    let t = token_from(s.line, s.at, s.argument);
-    s.at = t.stop;
-    t
+    let r = step(s.line, s.position);
+    s.position = r.position;
+    r.token
 }
 
-// The token at a place of the scanner's line, wherever the scanner is.
+// The token that covers a place of the scanner's line, wherever the scanner stands.
 pub fn look<'a>(s: Scanner<'a>, at: usize) -> Token
-    ensures { λ t. ⌜ t ≡ tokenFrom (now (s .entry .line)) at (s .entry .argument) ⌝ }
+    ensures { λ t. ⌜ t ≡ covering (now (s .entry .line)) at ⌝ }
 {
-    token_from(s.line, at, s.argument)
+    covering_token(s.line, at)
 }
 
-// The token at a place of a line, for callers that hold no scanner.
+// The token that covers a place of a line, for callers that hold no scanner.
 pub fn token_at(line: &[u8], at: usize) -> Token
-    ensures { λ r. ⌜ r ≡ tokenAt (now (line .entry)) at ⌝ }
+    ensures { λ r. ⌜ r ≡ covering (now (line .entry)) at ⌝ }
 {
-    look(new(line), at)
+    covering_token(line, at)
 }

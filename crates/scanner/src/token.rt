@@ -18,9 +18,10 @@ ghost use Prim.Native.Nat.{_<_};
 ghost use lib.ListN.{length};
 ghost use Rattle.scan.specs.Bytes.{Classes};
 ghost use Rattle.reading.specs.Line.{wordAt};
-ghost use Rattle.scanner.specs.Tokens.{leadLeft, leadWord, leadOf, pieces, upTo, pieceAt, parted as partedAt, newlineToken, itemToken, argumentToken, tokenAt, tokenFrom};
+ghost use Rattle.scanner.specs.Tokens.{leadLeft, leadWord, leadOf, pieces, upTo, pieceAt, parted as partedAt, newlineToken, itemToken, argumentToken, endToken, tokenIn, positionAt, stepAt, covering};
 
-// `Newline` is a 0x0A that a reading consumes, `Left` what no reading of the line takes, `End` that nothing is left.
+// `Newline` is a 0x0A that a reading consumes, `Unlisted` the rest of an argument that is no list, `Left` what a failed reading leaves over,
+// `End` that nothing is left.
 pub enum TokenKind {
     Space,
     Colon,
@@ -30,6 +31,7 @@ pub enum TokenKind {
     Text,
     Quoted,
     Newline,
+    Unlisted,
     Left,
     End,
 }
@@ -39,6 +41,19 @@ pub struct Token {
     pub kind: TokenKind,
     pub start: usize,
     pub stop: usize,
+}
+
+// Where a scanner stands: the place of its next token, in the lead of the line, or in the argument and behind it, where the lead is not
+// read again.
+pub enum Position {
+    Lead(usize),
+    Argument(usize),
+}
+
+// What a scanner hands out, and where it then stands.
+pub struct Scanned {
+    pub token: Token,
+    pub position: Position,
 }
 
 // Where each piece of a line's lead ends: spaces, colons, spaces, range, word, the 0x0A that an empty word consumes, bang, spaces; and
@@ -177,13 +192,13 @@ fn newline_token(s: &[u8], at: usize) -> Token
     }
 }
 
-// What is left of an argument from `at` on.
-fn left_token(s: &[u8], at: usize, classes: &[u8; 256]) -> Token
+// What is left of an argument from `at` on, where it is no list.
+fn unlisted_token(s: &[u8], at: usize, classes: &[u8; 256]) -> Token
     requires { ⌜ Classes (now classes) ⌝ }
     ensures { λ r. ⌜ r ≡ itemToken (now (s .entry)) at TextEnd.Bad ⌝ }
 {
     Token {
-        kind: TokenKind::Left,
+        kind: TokenKind::Unlisted,
         start: at,
         stop: run_end(s, at, classes, Kind::Text),
     }
@@ -195,10 +210,10 @@ fn item_token(s: &[u8], at: usize, e: TextEnd, classes: &[u8; 256]) -> Token
     ensures { λ r. ⌜ r ≡ itemToken (now (s .entry)) at e ⌝ }
 {
     let TextEnd::End(j) = e else {
-        return left_token(s, at, classes);
+        return unlisted_token(s, at, classes);
     };
     if !parted(s, j, classes) {
-        return left_token(s, at, classes);
+        return unlisted_token(s, at, classes);
     }
     if byte_at(s, at) == 0x22 {
         return Token {
@@ -214,17 +229,24 @@ fn item_token(s: &[u8], at: usize, e: TextEnd, classes: &[u8; 256]) -> Token
     }
 }
 
+// That nothing is left: it stands at the end of the line.
+fn end_token(s: &[u8]) -> Token
+    ensures { λ r. ⌜ r ≡ endToken (now (s .entry)) ⌝ }
+{
+    Token {
+        kind: TokenKind::End,
+        start: s.len(),
+        stop: s.len(),
+    }
+}
+
 // The token at `at` of an argument and of what stands behind it.
 fn argument_token(s: &[u8], at: usize, classes: &[u8; 256]) -> Token
     requires { ⌜ Classes (now classes) ⌝ }
     ensures { λ r. ⌜ r ≡ argumentToken (now (s .entry)) at ⌝ }
 {
     if s.len() <= at {
-        return Token {
-            kind: TokenKind::End,
-            start: at,
-            stop: at,
-        };
+        return end_token(s);
     }
     let b = byte_at(s, at);
     if is_kind(classes, Kind::Space, b) {
@@ -240,34 +262,87 @@ fn argument_token(s: &[u8], at: usize, classes: &[u8; 256]) -> Token
     item_token(s, at, item_end(s, at, classes), classes)
 }
 
-// The token at `at` of a line whose lead is to be read.
-fn line_token(s: &[u8], at: usize, classes: &[u8; 256]) -> Token
+// The token at `at` of a line with the lead `lead`.
+fn line_token(s: &[u8], lead: Lead, at: usize, classes: &[u8; 256]) -> Token
     requires { ⌜ Classes (now classes) ⌝ }
-    ensures { λ r. ⌜ r ≡ tokenAt (now (s .entry)) at ⌝ }
+    ensures { λ r. ⌜ r ≡ tokenIn (now (s .entry)) lead at ⌝ }
 {
-    let lead = lead_of(s, classes);
     if at < lead.argument {
         return piece_at(lead, at);
     }
     argument_token(s, at, classes)
 }
 
-// Where the argument of a line starts: its end, where the reading fails before the argument.
-pub fn argument_start(line: &[u8]) -> usize
-    ensures { λ r. ⌜ r ≡ leadOf (now (line .entry)) .argument ⌝ }
+// Where a scanner stands that goes on at `at`, of a line whose argument starts at `argument`.
+fn position_at(argument: usize, at: usize) -> Position
+    ensures { λ r. ⌜ r ≡ positionAt argument at ⌝ }
 {
-    let classes = classes();
-    let lead = lead_of(line, &classes);
-    lead.argument
+    if at < argument {
+        return Position::Lead(at);
+    }
+    Position::Argument(at)
 }
 
-// The token at `at` of a line whose argument starts at `argument`: behind that, the lead is not read again.
-pub fn token_from(line: &[u8], at: usize, argument: usize) -> Token
-    ensures { λ r. ⌜ r ≡ tokenFrom (now (line .entry)) at argument ⌝ }
+// One step from `at`, where the lead is to be read.
+fn lead_step(s: &[u8], at: usize, classes: &[u8; 256]) -> Scanned
+    requires { ⌜ Classes (now classes) ⌝ }
+    ensures { λ r. ⌜ r ≡ stepAt (now (s .entry)) (Position.Lead at) ⌝ }
+{
+    let lead = lead_of(s, classes);
+    let argument = lead.argument;
+    let t = line_token(s, lead, at, classes);
+    let stop = t.stop;
+    let p = position_at(argument, stop);
+    Scanned {
+        token: t,
+        position: p,
+    }
+}
+
+// One step from `at` of the argument.
+fn argument_step(s: &[u8], at: usize, classes: &[u8; 256]) -> Scanned
+    requires { ⌜ Classes (now classes) ⌝ }
+    ensures { λ r. ⌜ r ≡ stepAt (now (s .entry)) (Position.Argument at) ⌝ }
+{
+    let t = argument_token(s, at, classes);
+    let stop = t.stop;
+    Scanned {
+        token: t,
+        position: Position::Argument(stop),
+    }
+}
+
+fn step_with(s: &[u8], position: Position, classes: &[u8; 256]) -> Scanned
+    requires { ⌜ Classes (now classes) ⌝ }
+    ensures { λ r. ⌜ r ≡ stepAt (now (s .entry)) position ⌝ }
+{
+    match position {
+        Position::Lead(at) => lead_step(s, at, classes),
+        Position::Argument(at) => argument_step(s, at, classes),
+    }
+}
+
+// The token at a position of a line, and the position past it.
+pub fn step(line: &[u8], position: Position) -> Scanned
+    ensures { λ r. ⌜ r ≡ stepAt (now (line .entry)) position ⌝ }
 {
     let classes = classes();
-    if at < argument {
-        return line_token(line, at, &classes);
+    step_with(line, position, &classes)
+}
+
+// The token that covers the place `at` of a line: its tokens are gone through from the first on.
+pub fn covering_token(line: &[u8], at: usize) -> Token
+    ensures { λ r. ⌜ r ≡ covering (now (line .entry)) at ⌝ }
+{
+    if line.len() <= at {
+        return end_token(line);
     }
-    argument_token(line, at, &classes)
+    let classes = classes();
+    let mut here = lead_step(line, 0, &classes);
+    while here.token.stop <= at {
+        let position = here.position;
+        here = step_with(line, position, &classes);
+    }
+    let t = here.token;
+    t
 }

@@ -1,5 +1,5 @@
--- `scanner::look` meets its contract: a walk of its MIR, by hand. The struct is taken apart, and `token_from` is called on the slice, the
--- place passed and the place of the argument. All that the proof knows of `token_from` is that it meets its contract.
+-- `scanner::look` meets its contract: a walk of its MIR, by hand. The struct is taken apart, and `covering_token` is called on the slice and
+-- the place passed. All that the proof knows of `covering_token` is that it meets its contract.
 -- The struct is Copy: what it owns is had twice, one copy is kept whole for the exit, and of the other what line owns goes to the callee,
 -- beside the lifetime's token, which comes back.
 -- Assumes nothing.
@@ -44,17 +44,17 @@ use denote.Triple.Table.{entered, cited}
 use denote.Triple.Walked.{says, Stays, stay-none, walkOf, goes-none, Walks, ends-at, walked, walk-meets}
 use denote.Exit.{yes}
 use denote.Triple.Clauses.{ensured, lasts}
-use Rattle.scanner.specs.Tokens.{tokenFrom}
+use Rattle.scanner.specs.Tokens.{covering}
 use Rattle.scanner.specs.declared.Scanner.{Scanner}
 use Rattle.scanner.specs.declared.token.Token.{Token}
 use Rattle.scanner.proofs.Scanner as T
 use Rattle.scanner.proofs.Scanner.Laws as T′
 use Rattle.scanner.proofs.token.Token as S
 use Rattle.scanner.proofs.token.Token.Laws as S′
-use Rattle.scanner.proofs.token.token_from as token
-use Rattle.scanner.proofs.token.token_from.Symbol as token-def
-use Rattle.scanner.proofs.token.token_from.Symbol.{name as #token-from}
-use Rattle.scanner.proofs.token.token_from.Met as token-thm
+use Rattle.scanner.proofs.token.covering_token as token
+use Rattle.scanner.proofs.token.covering_token.Symbol as token-def
+use Rattle.scanner.proofs.token.covering_token.Symbol.{name as #covering-token}
+use Rattle.scanner.proofs.token.covering_token.Met as token-thm
 use Rattle.scanner.proofs.look.Key.{name as #look}
 use Rattle.scanner.proofs.look as looked
 use Rattle.scanner.proofs.look.Statement as stated
@@ -69,19 +69,30 @@ stayed = (stay-none B yes, (stay-none (λ _. usize) yes, tt))
 
 module _ {M : Type 1} (𝓤 : URA M) (H : Heap 𝓤) (A : Atoms 𝓤) (mem : Memory → SProp 𝓤) (run : Routine → Fun 𝓤) where
   -- the contract that the proof cites
-  abbrev TokenFrom : Contract 𝓤
-  TokenFrom = tripleOf 𝓤 H A token.signature (token.spec 𝓤 H A mem run)
+  abbrev CoveringToken : Contract 𝓤
+  CoveringToken = tripleOf 𝓤 H A token.signature (token.spec 𝓤 H A mem run)
 
 module _ {M : Type 1} (𝓤 : URA M) (H : Heap 𝓤) (A : Atoms 𝓤) (W : Given 𝓤 H A) (mem : Memory → SProp 𝓤) (run : Routine → Fun 𝓤) (κ : Lft) (q : Share) (d : Scanner) (n : ℕ) (ok : n < 2 ^ 64) where
+  -- the struct's type and laws, and d's fields' values
+  abbrev D : Declared
+  D = T.the-type (namedLft 1 0 tt (κ, tt))
+
+  abbrev L : LL.Laws D
+  L = T′.the-laws (namedLft 1 0 tt (κ, tt))
+
+  abbrev vd : Values (D .parts)
+  vd = (d .line, (d .position, tt))
+
+  -- the machine value of the struct
   abbrev mach : Val
-  mach = T′.lowered d
+  mach = LL.val D L d
 
   -- the machine value of line
   abbrev v : Val
   v = sliceVal (d .line .ptr) (length (d .line .now))
 
   abbrev found : Token
-  found = tokenFrom (now (d .line)) n (d .argument)
+  found = covering (now (d .line)) n
 
   abbrev at : Vals looked.signature (κ, tt)
   at = (mach ∷ [], (vint w64 n ∷ [], tt))
@@ -92,40 +103,29 @@ module _ {M : Type 1} (𝓤 : URA M) (H : Heap 𝓤) (A : Atoms 𝓤) (W : Given
   abbrev Own : Fml
   Own = B (κ, tt) .own d (mach ∷ [])
 
-  -- the struct's type and laws, and d's fields' values
-  abbrev D : Declared
-  D = T.the-type (namedLft 1 0 tt (κ, tt))
-
-  abbrev L : LL.Laws D
-  L = T′.the-laws (namedLft 1 0 tt (κ, tt))
-
-  abbrev vd : Values (D .parts)
-  vd = (d .line, (d .at, (d .argument, tt)))
-
   -- what the callee is passed
   abbrev passed : Vals token.signature (κ, tt)
-  passed = (v ∷ [], (vint w64 n ∷ [], (vint w64 (d .argument) ∷ [], tt)))
+  passed = (v ∷ [], (vint w64 n ∷ [], tt))
 
-  abbrev to : TokenFrom 𝓤 H A mem run .Ghost
-  to = (((κ, tt), (q, tt), tt, (d .line, (n, (d .argument, tt))), passed), tt)
+  abbrev to : CoveringToken 𝓤 H A mem run .Ghost
+  to = (((κ, tt), (q, tt), tt, (d .line, (n, tt)), passed), tt)
 
-  asked : ent 𝓤 (onEntry 𝓤 H A token.signature (κ, tt) (q, tt) (d .line, (n, (d .argument, tt))) passed) (TokenFrom 𝓤 H A mem run .pre to)
-  asked = qed W ((‵ (flft κ q) ⊛ ‵ ftrue) ∷ ‵ (owns (ShrSlice (named 0) κ u8 ∷ usize ∷ usize ∷ []) (d .line, (n, (d .argument, tt))) passed) ∷ []) ∵ join ! $ frame ! $ done !
+  asked : ent 𝓤 (onEntry 𝓤 H A token.signature (κ, tt) (q, tt) (d .line, (n, tt)) passed) (CoveringToken 𝓤 H A mem run .pre to)
+  asked = qed W ((‵ (flft κ q) ⊛ ‵ ftrue) ∷ ‵ (owns (ShrSlice (named 0) κ u8 ∷ usize ∷ []) (d .line, (n, tt)) passed) ∷ []) ∵ join ! $ frame ! $ done !
 
   -- what the struct owns gives what the callee asks, and is kept
-  apart : d .argument < 2 ^ 64 → ent 𝓤 (onEntry 𝓤 H A looked.signature (κ, tt) (q, tt) (d, (n, tt)) at) (sep 𝓤 (TokenFrom 𝓤 H A mem run .pre to) (sem 𝓤 H A Own))
-  apart fits =
+  apart : ent 𝓤 (onEntry 𝓤 H A looked.signature (κ, tt) (q, tt) (d, (n, tt)) at) (sep 𝓤 (CoveringToken 𝓤 H A mem run .pre to) (sem 𝓤 H A Own))
+  apart =
       qed W ((‵ (flft κ q) ⊛ ‵ ftrue) ∷ ‵ (owns (B (κ, tt) ∷ usize ∷ []) (d, (n, tt)) at) ∷ []) ∵
       move ! (1 ∷ []) $ fsplit ! $ move ! (1 ∷ []) $ drop ! $ use1 W (‵ Own ⊛ ‵ Own) (LL.copy D (T′.the-copy (namedLft 1 0 tt (κ, tt))) 𝓤 H A W .twice d (mach ∷ [])) $ split ! $
       use1 W (given (mach ∷ [] ≡ mach ∷ []) (‵ (all-own (D .parts) L vd))) (own-open 𝓤 H A W D L vd mach) $ learn ! (λ _. use1 W (‵ (ownAt (D .parts) L 0 (d .line)) ⊛ ‵ (rest (D .parts) L 0 vd)) (own-out 𝓤 H A W (D .parts) L 0 vd) $ split ! $
-      -- [what line owns; what the numbers own; what the struct owns; the token]
-      move ! (1 ∷ []) $ drop ! $ nothing ! $ owned ! usize (Is usize) (uint-makes 𝓤 H A W w64) (d .argument) _ (refl, fits) $ fjoin ! $
-      owned ! usize (Is usize) (uint-makes 𝓤 H A W w64) n _ (refl, ok) $ fjoin ! $ move ! (1 ∷ 0 ∷ []) $ fjoin ! $
-      move ! (2 ∷ 0 ∷ []) $ use2 W (raw (TokenFrom 𝓤 H A mem run .pre to)) asked $ frame ! $ done !)
+      -- [what line owns; what the position owns; what the struct owns; the token]
+      move ! (1 ∷ []) $ drop ! $ nothing ! $ owned ! usize (Is usize) (uint-makes 𝓤 H A W w64) n _ (refl, ok) $ fjoin ! $ move ! (1 ∷ 0 ∷ []) $ fjoin ! $
+      move ! (2 ∷ 0 ∷ []) $ use2 W (raw (CoveringToken 𝓤 H A mem run .pre to)) asked $ frame ! $ done !)
 
   -- of the callee's `ensured`, the clause alone: it has no `&mut`, so what is said of last values is dropped
-  said : (r : Token) → ent 𝓤 (ensured 𝓤 H A token.ended (token.clauses 𝓤 H A mem run) (κ, tt) (d .line, (n, (d .argument, tt))) tt r) (fact 𝓤 (r ≡ found))
-  said r = exE 𝓤 _ (λ ws. snd∗ 𝓤 (sem 𝓤 H A (lasts token.ended (κ, tt) (d .line, (n, (d .argument, tt))) ws)) (fact 𝓤 (r ≡ found)))
+  said : (r : Token) → ent 𝓤 (ensured 𝓤 H A token.ended (token.clauses 𝓤 H A mem run) (κ, tt) (d .line, (n, tt)) tt r) (fact 𝓤 (r ≡ found))
+  said r = exE 𝓤 _ (λ ws. snd∗ 𝓤 (sem 𝓤 H A (lasts token.ended (κ, tt) (d .line, (n, tt)) ws)) (fact 𝓤 (r ≡ found)))
 
   exits : (r : Token) (u : Val) → r ≡ found → ent 𝓤 (⋆ 𝓤 H A (‵ (S.the-row .own r (u ∷ [])) ∷ (‵ (flft κ q) ⊛ ‵ ftrue) ∷ ‵ Own ∷ [])) (Post u)
   exits r u e =
@@ -133,31 +133,30 @@ module _ {M : Type 1} (𝓤 : URA M) (H : Heap 𝓤) (A : Atoms 𝓤) (W : Given
       suffices ! _ (ends-at 𝓤 H A looked.ended stayed (looked.clauses 𝓤 H A mem run) W (((κ, tt), (q, tt), tt, (d, (n, tt)), at), tt) u r (tt, (tt, tt)) (tt, (tt, tt))) $ says ! e $
       move ! (1 ∷ []) $ frame ! $ nothing ! $ owned ! usize (Is usize) (uint-makes 𝓤 H A W w64) n _ (refl, ok) $ fjoin ! $ move ! (2 ∷ 0 ∷ []) $ fjoin ! $ frame ! $ done !
 
-  module _ (C : Calls 𝓤 H) (Λ : Loops 𝓤 H) (fm : FmC 𝓤 H (W .laws) C) (known : Triple 𝓤 (C #token-from) (TokenFrom 𝓤 H A mem run)) where
+  module _ (C : Calls 𝓤 H) (Λ : Loops 𝓤 H) (fm : FmC 𝓤 H (W .laws) C) (known : Triple 𝓤 (C #covering-token) (CoveringToken 𝓤 H A mem run)) where
     walk : Holds (hasTy (T′.mir (named 0)) mach) × WT mach → ent 𝓤 (onEntry 𝓤 H A looked.signature (κ, tt) (q, tt) (d, (n, tt)) at) (WpFn 𝓤 H C Λ code.function (mach ∷ vint w64 n ∷ []) Post)
     walk wt =
         qed W (raw (onEntry 𝓤 H A looked.signature (κ, tt) (q, tt) (d, (n, tt)) at) ∷ []) ∵ enter ! C Λ code.function (mach ∷ vint w64 n ∷ []) _ $
-        alloc1 ! (λ l₀. alloc1 ! (λ l₁. alloc1 ! (λ l₂. alloc1 ! (λ l₃. alloc1 ! (λ l₄. alloc0 ! $ params1 ! $ pass1 ! (init ! 6 refl wt) $ pass1 ! (init ! 4 refl (tt, record { fits = ok })) $ pass0 ! $
-        assigns ! (of-opd ! (load ! (from ! (fld ! refl (stop !))) (look-in ! 6 (sub ! 0 refl (whole !))))) (from ! (stop !)) (init ! 2 refl (tt, wt .1 .0)) $
-        assigns ! (of-opd ! (load ! (from ! (fld ! refl (stop !))) (look-in ! 6 (sub ! 2 refl (whole !))))) (from ! (stop !)) (init ! 0 refl (tt, wt .1 .1 .1 .0)) $
-        move ! (10 ∷ []) $ use1 W (raw (TokenFrom 𝓤 H A mem run .pre to) ⊛ ‵ Own) (apart (wt .1 .1 .1 .0 .fits)) $ split ! $
-        calls-at ! fm (TokenFrom 𝓤 H A mem run) known to (and-then ! (load ! (from ! (stop !)) (look ! 4 refl)) (and-then ! (load ! (from ! (stop !)) (look ! 6 refl)) (and-then ! (load ! (from ! (stop !)) (look ! 2 refl)) (no-more !)))) (λ u.
-        use1 W (later (some (λ (r : Token). ((‵ (flft κ q) ⊛ ‵ ftrue) ⊛ ‵ (S.the-row .own r (u ∷ []))) ⊛ raw (ensured 𝓤 H A token.ended (token.clauses 𝓤 H A mem run) (κ, tt) (d .line, (n, (d .argument, tt))) tt r)))) (id⊢ 𝓤 _) $ await ! tt $ pick ! (λ r.
+        alloc1 ! (λ l₀. alloc1 ! (λ l₁. alloc1 ! (λ l₂. alloc1 ! (λ l₃. alloc0 ! $ params1 ! $ pass1 ! (init ! 4 refl wt) $ pass1 ! (init ! 2 refl (tt, record { fits = ok })) $ pass0 ! $
+        assigns ! (of-opd ! (load ! (from ! (fld ! refl (stop !))) (look-in ! 4 (sub ! 0 refl (whole !))))) (from ! (stop !)) (init ! 0 refl (tt, wt .1 .0)) $
+        move ! (8 ∷ []) $ use1 W (raw (CoveringToken 𝓤 H A mem run .pre to) ⊛ ‵ Own) apart $ split ! $
+        calls-at ! fm (CoveringToken 𝓤 H A mem run) known to (and-then ! (load ! (from ! (stop !)) (look ! 2 refl)) (and-then ! (load ! (from ! (stop !)) (look ! 4 refl)) (no-more !))) (λ u.
+        use1 W (later (some (λ (r : Token). ((‵ (flft κ q) ⊛ ‵ ftrue) ⊛ ‵ (S.the-row .own r (u ∷ []))) ⊛ raw (ensured 𝓤 H A token.ended (token.clauses 𝓤 H A mem run) (κ, tt) (d .line, (n, tt)) tt r)))) (id⊢ 𝓤 _) $ await ! tt $ pick ! (λ r.
         split ! $ move ! (1 ∷ []) $ use1 W (raw (fact 𝓤 (r ≡ found))) (said r) $ heard ! (r ≡ found) (λ e. split ! $ move ! (1 ∷ []) $
-        -- [the result; the token; what the struct owns; _4; …; _3; …; _2; …; _1; …; room for _0; …]
+        -- [the result; the token; what the struct owns; _3; …; _2; …; _1; …; room for _0; …]
         peeks ! S.the-row (Is S.the-row) (shows 𝓤 H A S.the-row) r (u ∷ []) (λ is.
-        land ! (from ! (stop !)) (init ! 11 refl (LL.lawful S.the-type S′.the-laws 𝓤 H A W .typed r _ is .0)) $
-        returns ! (look ! 11 refl) $ forget ! 3 refl $ forget ! 5 refl $ forget ! 7 refl $ forget ! 9 refl $ forget ! 11 refl $
-        move ! (11 ∷ 12 ∷ []) $ free1 ! $ move ! (9 ∷ 10 ∷ []) $ free1 ! $ move ! (7 ∷ 8 ∷ []) $ free1 ! $ move ! (5 ∷ 6 ∷ []) $ free1 ! $ move ! (3 ∷ 4 ∷ []) $ free1 ! $ free0 ! $ by ! (exits r u e))))))))))
+        land ! (from ! (stop !)) (init ! 9 refl (LL.lawful S.the-type S′.the-laws 𝓤 H A W .typed r _ is .0)) $
+        returns ! (look ! 9 refl) $ forget ! 3 refl $ forget ! 5 refl $ forget ! 7 refl $ forget ! 9 refl $
+        move ! (9 ∷ 10 ∷ []) $ free1 ! $ move ! (7 ∷ 8 ∷ []) $ free1 ! $ move ! (5 ∷ 6 ∷ []) $ free1 ! $ move ! (3 ∷ 4 ∷ []) $ free1 ! $ free0 ! $ by ! (exits r u e)))))))))
 
 module _ {M : Type 1} (𝓤 : URA M) (H : Heap 𝓤) (A : Atoms 𝓤) (W : Given 𝓤 H A) (mem : Memory → SProp 𝓤) (run : Routine → Fun 𝓤) where
-  look-walks : (C : Calls 𝓤 H) (Λ : Loops 𝓤 H) → FmC 𝓤 H (W .laws) C → Triple 𝓤 (C #token-from) (TokenFrom 𝓤 H A mem run)
+  look-walks : (C : Calls 𝓤 H) (Λ : Loops 𝓤 H) → FmC 𝓤 H (W .laws) C → Triple 𝓤 (C #covering-token) (CoveringToken 𝓤 H A mem run)
       → Walks 𝓤 H A looked.ended stayed (WpFn 𝓤 H C Λ code.function) (looked.clauses 𝓤 H A mem run)
   look-walks C Λ fm known = walked 𝓤 H A looked.ended stayed (looked.clauses 𝓤 H A mem run) (WpFn 𝓤 H C Λ code.function) (λ κs. (LL.vals (T.the-type (namedLft 1 0 tt κs)) (T′.the-laws (namedLft 1 0 tt κs)), (uint-vals w64, tt))) (λ κs. (LL.tells (T.the-type (namedLft 1 0 tt κs)) (T′.the-laws (namedLft 1 0 tt κs)), (uint-tells w64, tt)))
       (λ κs qs bounds a g are. via 𝓤 _ (fst∗ 𝓤 _ (emp 𝓤)) (walk 𝓤 H A W mem run (κs .0) (qs .0) (a .0) (a .1 .0) (are .1 .0 .1) C Λ fm known (LL.lawful (T.the-type (namedLft 1 0 tt κs)) (T′.the-laws (namedLft 1 0 tt κs)) 𝓤 H A W .typed (a .0) _ (are .0) .0)))
 
 look-meets : {M : Type 1} (𝓤 : URA M) (H : Heap 𝓤) (A : Atoms 𝓤) (W : Given 𝓤 H A) (mem : Memory → SProp 𝓤) (run : Routine → Fun 𝓤) (𝓣 : Tables 𝓤 H)
-    → Triple 𝓤 (𝓣 .C #token-from) (TokenFrom 𝓤 H A mem run)
+    → Triple 𝓤 (𝓣 .C #covering-token) (CoveringToken 𝓤 H A mem run)
     → Meets 𝓤 H A looked.signature (WpFn 𝓤 H (𝓣 .C) (𝓣 .Λ) code.function) (looked.spec 𝓤 H A mem run)
 look-meets 𝓤 H A W mem run 𝓣 known = walk-meets 𝓤 H A looked.ended stayed W (goes-none 𝓤 H A W 1 B yes (λ κs x f. refl), (goes-none 𝓤 H A W 1 (λ _. usize) yes (λ κs x f. refl), tt)) (looked.clauses 𝓤 H A mem run) (WpFn 𝓤 H (𝓣 .C) (𝓣 .Λ) code.function) (WpFn-mono 𝓤 H (W .laws) 𝓣 code.function)
     (look-walks 𝓤 H A W mem run (𝓣 .C) (𝓣 .Λ) (fmOf 𝓤 H (W .laws) 𝓣) known)
@@ -168,4 +167,4 @@ look-spec 𝓤 H 𝓜 𝓖 𝓡 =
     entered 𝓤 H (tripleOf 𝓤 H (𝓖 .A) looked.signature (looked.spec 𝓤 H (𝓖 .A) (𝓜 .mem) (𝓡 .run)))
     (tables 𝓤 H 𝓜 𝓡 code.env .C) (tables 𝓤 H 𝓜 𝓡 code.env .Λ) #look code.function (code.unfolded 𝓤 H 𝓜 𝓡)
     (look-meets 𝓤 H (𝓖 .A) (givenOf 𝓤 H 𝓜 𝓖) (𝓜 .mem) (𝓡 .run) (tablesOf 𝓤 H 𝓜 (tables 𝓤 H 𝓜 𝓡 code.env))
-    (cited 𝓤 H (TokenFrom 𝓤 H (𝓖 .A) (𝓜 .mem) (𝓡 .run)) 𝓜 𝓡 code.env #token-from token-def.routine code.calls-scanner·token·token-from (token-thm.met 𝓤 H 𝓜 𝓖 𝓡)))
+    (cited 𝓤 H (CoveringToken 𝓤 H (𝓖 .A) (𝓜 .mem) (𝓡 .run)) 𝓜 𝓡 code.env #covering-token token-def.routine code.calls-scanner·token·covering-token (token-thm.met 𝓤 H 𝓜 𝓖 𝓡)))

@@ -8,9 +8,12 @@ use borrow.Author.Needs.{needs}
 use Rattle.scanner.proofs.token.argument_token.Statement.{statement}
 use Rattle.scanner.proofs.token.argument_token.Tie as tie
 
+end-token-requires : tie.Need-end-token-requires
+end-token-requires c κs = search needs
+
 returns : tie.Need-returns
 unfolding argumentToken isKind
-returns c = rw (le-leb _ _ (c .if1 .taken))
+returns c = rw (c .end-token .ensures, le-leb _ _ (c .before .if1 .taken))
 
 byte-at-requires : tie.Need-byte-at-requires
 byte-at-requires c κs = search needs
@@ -67,6 +70,7 @@ pub argument-token-spec : {M : Type 1} → statement M
 argument-token-spec =
     tie.close
     (tie.spec
+    end-token-requires
     returns
     byte-at-requires
     is-kind-requires

@@ -13,22 +13,22 @@ enum-known-e c = search needs
 enum-told : tie.Need-enum-told
 enum-told c = search needs
 
-left-token-requires : tie.Need-left-token-requires
-left-token-requires c κs = search needs
+unlisted-token-requires : tie.Need-unlisted-token-requires
+unlisted-token-requires c κs = search needs
 
 returns : tie.Need-returns
 unfolding itemToken
-returns c = rw (c .left-token .ensures, c .before .enum-told .given .1)
+returns c = rw (c .unlisted-token .ensures, c .before .enum-told .given .1)
 
 parted-requires : tie.Need-parted-requires
 parted-requires c κs = search needs
 
-left-token-requires-2 : tie.Need-left-token-requires-2
-left-token-requires-2 c κs = search needs
+unlisted-token-requires-2 : tie.Need-unlisted-token-requires-2
+unlisted-token-requires-2 c κs = search needs
 
 returns-2 : tie.Need-returns-2
 unfolding itemToken
-returns-2 c = rw (c .left-token2 .ensures, c .before .before .before .before .e .given .1, sym (c .before .before .parted .ensures) ∙ not-true _ (c .before .if1 .taken))
+returns-2 c = rw (c .unlisted-token2 .ensures, c .before .before .before .before .e .given .1, sym (c .before .before .parted .ensures) ∙ not-true _ (c .before .if1 .taken))
 
 byte-at-requires : tie.Need-byte-at-requires
 byte-at-requires c κs = search needs
@@ -47,10 +47,10 @@ item-token-spec =
     (tie.spec
     enum-known-e
     enum-told
-    left-token-requires
+    unlisted-token-requires
     returns
     parted-requires
-    left-token-requires-2
+    unlisted-token-requires-2
     returns-2
     byte-at-requires
     returns-3
