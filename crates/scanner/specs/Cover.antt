@@ -7,6 +7,7 @@ use mathlib.Core.List.{List, [], _∷_, _++_, List·Memᴰ}
 use lib.Dec.{eqb, ltb}
 use lib.ListN.{length}
 use Rattle.scan.specs.Scan.{partOf}
+use Rattle.utf8.specs.Utf8.{isUtf8}
 use Rattle.scanner.specs.Tokens.{token}
 use Rattle.scanner.specs.declared.token.TokenKind.{TokenKind}
 use Rattle.scanner.specs.declared.token.Token.{Token}
@@ -56,6 +57,11 @@ pub record LeftOver (s : List ℕ) (ts : List Token) : Type 0 where
   pub from : ℕ
   pub inside : from < length s
   pub is : ts ≡ before ++ token TokenKind.Left from (length s) ∷ []
+
+-- the bytes of each token are UTF-8: no token cuts a character
+abbrev pub Utf8s : List ℕ → List Token → Type 0
+Utf8s s [] = Unit {0}
+Utf8s s (t ∷ ts) = (isUtf8 (partOf s (t .start) (t .stop)) ≡ true) × Utf8s s ts
 
 -- each token stands from a up to e
 abbrev pub Within : ℕ → ℕ → List Token → Type 0

@@ -6,16 +6,16 @@ use mathlib.Core.List.{List, [], _∷_, _++_}
 use Prim.Native.Nat.{ℕ, zero, suc, _+_, _-_, _<_, _≤_}
 use native.Mathlib.Omega.{arith}
 use native.Mathlib.Decide.{decLt}
-use lib.Dec.{eqb, ltb}
+use lib.Dec.{eqb}
 use lib.ListN.{length}
-use borrow.Author.Tests.{ltb-false, lt-leb}
+use borrow.Author.Tests.{lt-leb}
 use Rattle.scan.specs.Bytes.{isSpace, isText}
 use Rattle.scan.specs.Scan.{runAt, byteAt}
 use Rattle.lists.specs.Lists.{itemAt}
 use Rattle.lists.specs.declared.text.TextEnd.{TextEnd}
-use Rattle.scanner.specs.Tokens.{token, endToken, leadOf, Piece, pieces, upTo, pieceAt, parted, newlineToken, itemToken, argumentToken, tokenAt, tokensFrom, tokensAt, tokensOf, positionAt, stepAt, handed, ends}
+use Rattle.scanner.specs.Tokens.{token, endToken, leadOf, pieces, parted, newlineToken, itemToken, argumentToken, tokenAt, tokensFrom, tokensAt, tokensOf, positionAt, stepAt, handed, ends}
 use Rattle.scanner.specs.Cover.{kindNo, ofKind}
-use Rattle.scanner.specs.LeadLaws.{Upto, lead-upto}
+use Rattle.scanner.specs.LeadLaws.{piece-all, lead-upto}
 use Rattle.scanner.specs.TokensLaws.{token-good, from-end, from-on}
 use Rattle.scanner.specs.ReadLaws.{token-lead, token-behind}
 use Rattle.scanner.specs.StepLaws.{step-from, token-end}
@@ -82,20 +82,6 @@ module _ (s : List ℕ) where
 isEnd : TokenKind → Bool
 isEnd k = eqb (kindNo k) (kindNo TokenKind.End)
 
--- pieces none of which is the end
-abbrev NoEnds : List Piece → Type 0
-NoEnds [] = Unit {0}
-NoEnds (p ∷ ps) = (isEnd (p .kind) ≡ false) × NoEnds ps
-
-piece-no-end : (j e i : ℕ) (ps : List Piece) → Upto j e ps → NoEnds ps → j ≤ i → i < e → isEnd (pieceAt ps i .kind) ≡ false
-unfolding pieceAt upTo
-piece-no-end j e i [] u f k l = absurd (omega arith)
-piece-no-end j e i (p ∷ ps) u f k l = go (ltb i (p .stop)) refl (λ m. piece-no-end (p .stop) e i ps (u .1) (f .1) m l)
-  where
-    go : (b : Bool) → ltb i (p .stop) ≡ b → (p .stop ≤ i → isEnd (pieceAt ps i .kind) ≡ false) → isEnd (cond b (token (p .kind) i (p .stop)) (pieceAt ps i) .kind) ≡ false
-    go true q r = f .0
-    go false q r = r (ltb-false i (p .stop) q)
-
 module _ (s : List ℕ) (i : ℕ) (h : i < length s) where
   item-no-end : (t : TextEnd) → isEnd (itemToken s i t .kind) ≡ false
   unfolding isEnd itemToken kindNo
@@ -125,7 +111,7 @@ module _ (s : List ℕ) (i : ℕ) (h : i < length s) where
       go : Dec (i < leadOf s .argument) → isEnd (tokenAt s i .kind) ≡ false
       go (yes l) =
           rw (token-lead s i l)
-          (piece-no-end 0 (leadOf s .argument) i (pieces (leadOf s)) (lead-upto s) (refl, (refl, (refl, (refl, (refl, (refl, (refl, (refl, (refl, tt))))))))) (omega arith) l)
+          (piece-all (λ k n. isEnd k ≡ false) 0 (leadOf s .argument) i (pieces (leadOf s)) (lead-upto s) (refl, (refl, (refl, (refl, (refl, (refl, (refl, (refl, (refl, tt))))))))) (omega arith) l)
       go (no l) = rw (token-behind s i (omega arith)) argument-no-end
 
 no-end-from : (s : List ℕ) (n i : ℕ) → ofKind TokenKind.End (tokensFrom n s i) ≡ []

@@ -52,6 +52,22 @@ piece-good j e i (p ∷ ps) h k l = go (ltb i (p .stop)) refl (λ m. piece-good 
     go true q r = record { starts = refl; past = ltb-true i (p .stop) q; inside = upto-le (p .stop) e ps (h .1) }
     go false q r = r (ltb-false i (p .stop) q)
 
+-- each piece has the property Q
+abbrev pub AllPieces : (TokenKind → ℕ → Type 0) → List Piece → Type 0
+AllPieces Q [] = Unit {0}
+AllPieces Q (p ∷ ps) = Q (p .kind) (p .stop) × AllPieces Q ps
+
+-- and so the one that i stands in
+pub piece-all : (Q : TokenKind → ℕ → Type 0) (j e i : ℕ) (ps : List Piece) → Upto j e ps → AllPieces Q ps → j ≤ i → i < e → Q (pieceAt ps i .kind) (pieceAt ps i .stop)
+unfolding pieceAt upTo
+piece-all Q j e i [] u f k l = absurd (omega arith)
+piece-all Q j e i (p ∷ ps) u f k l = go (ltb i (p .stop)) refl (λ m. piece-all Q (p .stop) e i ps (u .1) (f .1) m l)
+  where
+    go : (b : Bool) → ltb i (p .stop) ≡ b → (p .stop ≤ i → Q (pieceAt ps i .kind) (pieceAt ps i .stop)) →
+        Q (cond b (token (p .kind) i (p .stop)) (pieceAt ps i) .kind) (cond b (token (p .kind) i (p .stop)) (pieceAt ps i) .stop)
+    go true q r = f .0
+    go false q r = r (ltb-false i (p .stop) q)
+
 -- pieces ps up to e, and others behind them: what starts before e stops there or before; from e on only the others count
 pub piece-before : (j e i : ℕ) (ps qs : List Piece) → Upto j e ps → j ≤ i → i < e → pieceAt (ps ++ qs) i .stop ≤ e
 unfolding pieceAt upTo

@@ -128,7 +128,7 @@ covers-le i e (t ∷ ts) h =
     omega arith
 
 -- what stands from i up to j, and what stands from j on
-part-drop : (s : List ℕ) (i j : ℕ) → i ≤ j → partOf s i j ++ drop j s ≡ drop i s
+pub part-drop : (s : List ℕ) (i j : ℕ) → i ≤ j → partOf s i j ++ drop j s ≡ drop i s
 part-drop s i j h =
     let e : i + (j - i) ≡ j = omega arith in
     ap (λ (n : ℕ). partOf s i j ++ drop n s) (sym e)
