@@ -1,12 +1,13 @@
 -- What is said of a line's tokens: that they cover the line, the bytes that they name, those of one kind, and what is left over.
 -- Assumes nothing.
 use mathlib.Core.Path.{_≡_}
-use Prim.Native.Nat.{ℕ, _<_, _≤_}
-use mathlib.Core.Bool.{true, false, cond}
+use Prim.Native.Nat.{ℕ, _+_, _<_, _≤_}
+use mathlib.Core.Bool.{Bool, true, false, cond, _||_}
 use mathlib.Core.List.{List, [], _∷_, _++_, List·Memᴰ}
 use lib.Dec.{eqb, ltb}
 use lib.ListN.{length}
-use Rattle.scan.specs.Scan.{partOf}
+use Rattle.scan.specs.Scan.{byteAt, partOf}
+use Rattle.lists.specs.declared.list.Item.{Item}
 use Rattle.utf8.specs.Utf8.{isUtf8}
 use Rattle.scanner.specs.Tokens.{token}
 use Rattle.scanner.specs.declared.token.TokenKind.{TokenKind}
@@ -46,6 +47,22 @@ kindNo TokenKind.End = 10
 unfoldable pub ofKind : TokenKind → List Token → List Token
 ofKind k [] = []
 ofKind k (t ∷ ts) = elim (eqb (kindNo (t .kind)) (kindNo k)) [ true ↦ t ∷ ofKind k ts | false ↦ ofKind k ts ]
+
+-- the texts and the quoted texts, in their order
+unfoldable pub isItem : TokenKind → Bool
+isItem k = eqb (kindNo k) (kindNo TokenKind.Text) || eqb (kindNo k) (kindNo TokenKind.Quoted)
+
+unfoldable pub texts : List Token → List Token
+texts [] = []
+texts (t ∷ ts) = elim (isItem (t .kind)) [ true ↦ t ∷ texts ts | false ↦ texts ts ]
+
+-- the token that an item of the argument is, where that starts at a: quoted if it starts with a quote
+unfoldable pub tokenOf : List ℕ → ℕ → Item → Token
+tokenOf s a x = token (cond (eqb (byteAt s (a + x .start)) 0x22) TokenKind.Quoted TokenKind.Text) (a + x .start) (a + x .end)
+
+unfoldable pub tokensFor : List ℕ → ℕ → List Item → List Token
+tokensFor s a [] = []
+tokensFor s a (x ∷ xs) = tokenOf s a x ∷ tokensFor s a xs
 
 -- one token, or none where it would have no byte
 unfoldable pub some : TokenKind → ℕ → ℕ → List Token

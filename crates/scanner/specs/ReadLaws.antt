@@ -36,7 +36,7 @@ unfolding tokenAt
 token-behind s i h = rw (le-ltb i (leadOf s .argument) h)
 
 -- the pieces that have bytes
-unfoldable tokensIn : ℕ → List Piece → List Token
+unfoldable pub tokensIn : ℕ → List Piece → List Token
 tokensIn i [] = []
 tokensIn i (p ∷ ps) = some (p .kind) i (p .stop) ++ tokensIn (p .stop) ps
 
@@ -62,7 +62,7 @@ module _ (s : List ℕ) where
           let a : j ≡ p .stop = omega (arith, u .0, ltb-false j (p .stop) q) in
           ap (tokensAt s) a ∙ r ∙ rw q
 
-  lead-tokens : tokensOf s ≡ tokensIn 0 (pieces (leadOf s)) ++ tokensAt s (leadOf s .argument)
+  pub lead-tokens : tokensOf s ≡ tokensIn 0 (pieces (leadOf s)) ++ tokensAt s (leadOf s .argument)
   unfolding tokensOf
   lead-tokens = pieces-on 0 (leadOf s .argument) (pieces (leadOf s)) (lead-upto s) (lead-inside s) (omega arith) (λ i a b. token-lead s i b)
 

@@ -39,7 +39,7 @@ line-end s i e r h =
     let w : runAt isText s i < length s = omega arith in
     ap (byteAt s) (sym r) ∙ newline (byteAt s (runAt isText s i)) (runAt-ends isText s i w)
 
-no-newline : (b : ℕ) → isText b ≡ true → eqb b 0x0A ≡ false
+pub no-newline : (b : ℕ) → isText b ≡ true → eqb b 0x0A ≡ false
 unfolding isText
 no-newline b h = go (eqb b 0x0A) h
   where

@@ -36,7 +36,7 @@ within-on a e k t ts h l r = go (eqb (kindNo (t .kind)) (kindNo k)) refl
 
 module _ (s : List ℕ) (e : ℕ) (r : runAt isText s (leadOf s .argument) ≡ e) (f : skipByte s e 0x0A ≡ length s) where
   -- what stands behind the argument is one 0x0A
-  behind-token : e < length s → tokenAt s e ≡ token TokenKind.Newline e (length s)
+  pub behind-token : e < length s → tokenAt s e ≡ token TokenKind.Newline e (length s)
   unfolding argumentToken newlineToken isSpace skipByte
   behind-token h =
       let b : byteAt s e ≡ 0x0A = line-end s (leadOf s .argument) e r h in
