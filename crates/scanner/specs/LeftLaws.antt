@@ -142,7 +142,8 @@ word-inside : (s : List ℕ) (i : ℕ) → BadInside s i (wordAt s i)
 unfolding wordAt
 word-inside s i = go (eqb (byteAt s i) 0x21) (eqb (runAt isWord s i) i) (leb (length s) i) (eqb (byteAt s i) 0x0A) refl
   where
-    go : (a b c d : Bool) → leb (length s) i ≡ c → BadInside s i (cond a (WordRead.Word (i + 1) (i + 1)) (cond b (cond c (WordRead.Word i i) (cond d (WordRead.Word i (i + 1)) WordRead.Bad)) (WordRead.Word (runAt isWord s i) (runAt isWord s i))))
+    go : (a b c d : Bool) → leb (length s) i ≡ c → BadInside s i (cond a (WordRead.Word (i + 1) (i + 1))
+        (cond b (cond c (WordRead.Word i i) (cond d (WordRead.Word i (i + 1)) WordRead.Bad)) (WordRead.Word (runAt isWord s i) (runAt isWord s i))))
     go true b c d p = tt
     go false true true d p = tt
     go false true false true p = tt

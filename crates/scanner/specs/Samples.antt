@@ -1,6 +1,7 @@
 -- Worked examples of a line's tokens: each holds by computation over the definitions.
 -- Assumes nothing.
 use mathlib.Core.Path.{_≡_, refl}
+use Prim.Native.Nat.{ℕ}
 use mathlib.Core.List.{List, [], _∷_}
 use Prim.Native.String.{String}
 use Rattle.scan.specs.Ascii.{ascii}
@@ -10,8 +11,8 @@ use Rattle.ranges.specs.Range.{isSign, escapedAtom, markAtom, signAtom, numberO
 use Rattle.lists.specs.Text.{quotedEscape, plainEscape, escapeOf, own, stopAt, textEndFrom, textEndAt}
 use Rattle.lists.specs.Lists.{itemOf, itemAt}
 use Rattle.reading.specs.Line.{skipByte, wordAt}
-use Rattle.scanner.specs.Tokens.{token, leadLeft, leadWord, leadRange, leadOf, pieces, upTo, pieceAt, parted, newlineToken, itemToken, argumentToken, tokenAt, tokensFrom, tokensAt, tokensOf}
-use Rattle.scanner.specs.declared.token.TokenKind.the-variants.{Space, Colon, Range, Word, Bang, Text, Quoted, Newline, Unlisted, Left}
+use Rattle.scanner.specs.Tokens.{token, leadLeft, leadWord, leadRange, leadOf, pieces, upTo, pieceAt, parted, newlineToken, itemToken, argumentToken, tokenAt, tokensFrom, tokensAt, tokensOf, firstPast, covering}
+use Rattle.scanner.specs.declared.token.TokenKind.the-variants.{Space, Colon, Range, Word, Bang, Text, Quoted, Newline, Unlisted, Left, End}
 use Rattle.scanner.specs.declared.token.Token.{Token}
 
 tokens : String → List Token
@@ -43,3 +44,12 @@ failed : Has "3 q" (token Range 0 1 ∷ token Left 1 3 ∷ [])
     × Has "\n\n\n" (token Newline 0 1 ∷ token Left 1 3 ∷ [])
 unfolding tokens
 failed = (refl, refl, refl, refl, refl, refl)
+
+-- the token that covers a place: the one that starts before it; at the line's end and behind it, the end
+covered : String → ℕ → Token
+unfolding tokens firstPast covering
+covered t i = covering (ascii t) i
+
+at-places : (covered "w \"a b\"" 3 ≡ token Quoted 2 7) × (covered "w a" 1 ≡ token Space 1 2) × (covered "w a" 3 ≡ token End 3 3) × (covered "" 9 ≡ token End 0 0)
+unfolding covered
+at-places = (refl, refl, refl, refl)

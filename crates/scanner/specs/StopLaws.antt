@@ -184,7 +184,8 @@ module _ (s : List ℕ) (i : ℕ) where
       item TextEnd.Bad = refl
       item (TextEnd.End j) = ends (parted s j) (eqb (byteAt s i) 0x22)
         where
-          ends : (a b : Bool) → eqb (kindNo (cond a (cond b (token TokenKind.Quoted i j) (token TokenKind.Text i j)) (token TokenKind.Unlisted i (runAt isText s i)) .kind)) (kindNo TokenKind.Left) ≡ false
+          ends : (a b : Bool) →
+              eqb (kindNo (cond a (cond b (token TokenKind.Quoted i j) (token TokenKind.Text i j)) (token TokenKind.Unlisted i (runAt isText s i)) .kind)) (kindNo TokenKind.Left) ≡ false
           ends true true = refl
           ends true false = refl
           ends false b = refl

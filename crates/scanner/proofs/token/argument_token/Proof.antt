@@ -27,9 +27,10 @@ skip-spaces-requires c κs = search needs
 returns-2 : tie.Need-returns-2
 unfolding argumentToken isKind
 returns-2 c =
+    let p = c .before .before .before in
     rw (
-      lt-leb _ _ (c .before .before .before .before .if1 .left),
-      ← c .before .before .before .byte-at .ensures,
+      lt-leb _ _ (p .before .if1 .left),
+      ← p .byte-at .ensures,
       sym (c .before .before .is-kind .ensures) ∙ c .before .if2 .taken,
       ← c .skip-spaces .ensures,
     )
@@ -40,11 +41,12 @@ newline-token-requires c κs = search needs
 returns-3 : tie.Need-returns-3
 unfolding argumentToken isKind
 returns-3 c =
+    let p = c .before .before .before in
     rw (
       c .newline-token .ensures,
-      lt-leb _ _ (c .before .before .before .before .before .if1 .left),
-      ← c .before .before .before .before .byte-at .ensures,
-      sym (c .before .before .before .is-kind .ensures) ∙ c .before .before .if2 .left,
+      lt-leb _ _ (p .before .before .if1 .left),
+      ← p .before .byte-at .ensures,
+      sym (p .is-kind .ensures) ∙ c .before .before .if2 .left,
       eq-eqb _ _ (c .before .if3 .taken),
     )
 
@@ -57,12 +59,13 @@ item-token-requires c κs = search needs
 returns-4 : tie.Need-returns-4
 unfolding argumentToken isKind
 returns-4 c =
+    let p = c .before .before .before in
     rw (
       c .item-token .ensures,
       ← c .before .item-end .ensures,
-      lt-leb _ _ (c .before .before .before .before .before .before .if1 .left),
-      ← c .before .before .before .before .before .byte-at .ensures,
-      sym (c .before .before .before .before .is-kind .ensures) ∙ c .before .before .before .if2 .left,
+      lt-leb _ _ (p .before .before .before .if1 .left),
+      ← p .before .before .byte-at .ensures,
+      sym (p .before .is-kind .ensures) ∙ p .if2 .left,
       ne-eqb _ _ (c .before .before .if3 .left),
     )
 

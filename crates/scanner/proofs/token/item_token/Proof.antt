@@ -35,11 +35,25 @@ byte-at-requires c κs = search needs
 
 returns-3 : tie.Need-returns-3
 unfolding itemToken
-returns-3 c = rw (c .before .before .before .before .before .e .given .1, sym (c .before .before .before .parted .ensures) ∙ not-false _ (c .before .before .if1 .left), ← c .before .byte-at .ensures, eq-eqb _ _ (c .if2 .taken))
+returns-3 c =
+    let p = c .before .before .before in
+    rw (
+      p .before .before .e .given .1,
+      sym (p .parted .ensures) ∙ not-false _ (c .before .before .if1 .left),
+      ← c .before .byte-at .ensures,
+      eq-eqb _ _ (c .if2 .taken),
+    )
 
 returns-4 : tie.Need-returns-4
 unfolding itemToken
-returns-4 c = rw (c .before .before .before .before .before .e .given .1, sym (c .before .before .before .parted .ensures) ∙ not-false _ (c .before .before .if1 .left), ← c .before .byte-at .ensures, ne-eqb _ _ (c .if2 .left))
+returns-4 c =
+    let p = c .before .before .before in
+    rw (
+      p .before .before .e .given .1,
+      sym (p .parted .ensures) ∙ not-false _ (c .before .before .if1 .left),
+      ← c .before .byte-at .ensures,
+      ne-eqb _ _ (c .if2 .left),
+    )
 
 pub item-token-spec : {M : Type 1} → statement M
 item-token-spec =
