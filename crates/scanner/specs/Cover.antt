@@ -48,13 +48,17 @@ unfoldable pub ofKind : TokenKind → List Token → List Token
 ofKind k [] = []
 ofKind k (t ∷ ts) = elim (eqb (kindNo (t .kind)) (kindNo k)) [ true ↦ t ∷ ofKind k ts | false ↦ ofKind k ts ]
 
--- the texts and the quoted texts, in their order
+-- the tokens whose kind passes a test, in their order
+unfoldable pub only : (TokenKind → Bool) → List Token → List Token
+only f [] = []
+only f (t ∷ ts) = elim (f (t .kind)) [ true ↦ t ∷ only f ts | false ↦ only f ts ]
+
+-- the texts and the quoted texts
 unfoldable pub isItem : TokenKind → Bool
 isItem k = eqb (kindNo k) (kindNo TokenKind.Text) || eqb (kindNo k) (kindNo TokenKind.Quoted)
 
-unfoldable pub texts : List Token → List Token
-texts [] = []
-texts (t ∷ ts) = elim (isItem (t .kind)) [ true ↦ t ∷ texts ts | false ↦ texts ts ]
+abbrev pub texts : List Token → List Token
+texts ts = only isItem ts
 
 -- the token that an item of the argument is, where that starts at a: quoted if it starts with a quote
 unfoldable pub tokenOf : List ℕ → ℕ → Item → Token
