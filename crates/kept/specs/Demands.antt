@@ -4,14 +4,16 @@
 use mathlib.Core.Path.{_≡_}
 use mathlib.Core.Bool.{true}
 use mathlib.Core.List.{List, [], _∷_}
-use Prim.Native.Nat.{ℕ, _≤_}
+use Prim.Native.Nat.{ℕ, _+_, _≤_}
 use lib.Dec.{leb}
 use lib.ListN.{length}
 use Rattle.words.specs.Words.{Row}
 use Rattle.aliases.specs.Good.{goodRow, goodRows, goodTable}
 use Rattle.aliases.specs.TableLaws.{both, row-told}
 use Rattle.context.specs.Context.{fresh}
-use Rattle.demands.specs.Statement.{typed, AboutLists, AboutReadings}
+use Rattle.reading.specs.Behind.{NoNewline}
+use Rattle.commands.specs.Line.{storeAfter}
+use Rattle.demands.specs.Statement.{Passes, joined, typed, AllAlone, contextFrom, lasts, AboutLists, AboutReadings}
 use Rattle.demands.specs.Shortest.{shortest, limit, Aliases}
 use Rattle.demands.specs.Demand3.{demand3-lists, demand3-readings, demand3-limit}
 use Rattle.session.specs.Layout.{Session, WellFormed, tableOf, sessionOf, sound}
@@ -48,11 +50,32 @@ module _ (s : Session) (f : WellFormed s) where
 
 -- bytes -------------------------------------------------------------------------------------------------------------------------------------
 
+-- the words of the session
+abbrev pub wordsOf : List ℕ → List Row
+wordsOf b = tableOf (sessionOf b)
+
+-- the claim about a list (`ListClaim`), of what the call on a line answers
+pub record LineClaim (b : List ℕ) (ps : List (List ℕ)) (t store : List ℕ) : Type 0 where
+  pub last-of-each : contextFrom (wordsOf b) fresh ps ≡ lasts (wordsOf b) ps
+  pub same-out : lineAnswer b (joined ps t) (length store) .out ≡ typed (wordsOf b) (contextFrom (wordsOf b) fresh ps) t store .out
+  pub same-store : storeAfter (lineAnswer b (joined ps t) (length store) .out) store ≡
+      storeAfter (typed (wordsOf b) (contextFrom (wordsOf b) fresh ps) t store .out) store
+  pub counted : lineAnswer b (joined ps t) (length store) .readings ≡ length ps + lineAnswer b t (length store) .readings
+
 module _ (b : List ℕ) (h : sound b ≡ true) where
-  pub bytes-readings : AboutReadings (tableOf (sessionOf b))
+  -- prefixes before a last text
+  pub bytes-lists : (ps : List (List ℕ)) (t store : List ℕ) → AllAlone (wordsOf b) store ps → NoNewline (joined ps t) → Passes (joined ps t) store →
+      LineClaim b ps t store
+  unfolding lineAnswer
+  bytes-lists ps t store a n p =
+      let k = session-lists (sessionOf b) ps t store a n p in
+      record { last-of-each = k .last-of-each; same-out = rw h (k .same-out); same-store = rw h (k .same-store); counted = rw h (k .counted) }
+
+  -- the readings of a line
+  pub bytes-readings : AboutReadings (wordsOf b)
   bytes-readings = session-readings (sessionOf b) (sound-formed b h)
 
   -- what the call on a line answers
-  pub bytes-limit : (l store : List ℕ) → lineAnswer b l (length store) .readings ≤ limit (shortest (tableOf (sessionOf b))) (length l)
+  pub bytes-limit : (l store : List ℕ) → lineAnswer b l (length store) .readings ≤ limit (shortest (wordsOf b)) (length l)
   unfolding lineAnswer
   bytes-limit l store = rw h (session-limit (sessionOf b) (sound-formed b h) l store)
