@@ -1,25 +1,28 @@
 -- Bytes of a session that are not used are free. No rule looks at them: bytes that differ in nothing else are taken alike and are the same
--- session (`alike-read`). And no call changes them (`fresh-free`, `line-free`, `add-free`).
+-- session (`alike-read`). All others are fixed: bytes that are taken and are the same session differ in nothing else (`read-alike`). And no
+-- call changes those that are free (`fresh-free`, `line-free`, `add-free`).
 -- Assumes nothing.
 use mathlib.Core.Path.{_≡_, refl, sym, _∙_, ap}
 use mathlib.Core.Bool.{Bool, true, false, cond}
 use mathlib.Core.List.{List, []}
 use mathlib.Core.Logic.{_⊎_, inl, inr}
-use Prim.Native.Nat.{ℕ, _+_, _-_, _<_, _≤_}
+use Prim.Native.Nat.{ℕ, zero, suc, _+_, _-_, _<_, _≤_}
 use native.Mathlib.Omega.{arith}
 use native.Mathlib.Decide.{decLt}
 use lib.Dec.{eqb, leb}
 use lib.ListN.{length, drop, length-take, length-drop}
 use lib.Seq.{ext-getD, getD-take, getD-drop}
 use Rattle.scan.specs.Scan.{byteAt, partOf}
+use Rattle.scan.specs.PartLaws.{part-length}
 use Rattle.utf8.specs.Utf8.{isUtf8}
 use Rattle.reading.specs.Alone.{checked}
 use Rattle.aliases.specs.Rows.{rowsBytes}
 use Rattle.aliases.specs.Add.{insert}
+use Rattle.aliases.specs.TableLaws.{area-good}
 use Rattle.session.specs.Layout.{fresh, twoAt, areaOf, lineOf, sessionOf, remembering, aliasing, written, sound}
 use Rattle.session.specs.SetsLaws.{two-same}
 use Rattle.session.specs.Lent.{freshBytes, lineBytes, aliasNo, aliasBytes}
-use Rattle.session.specs.SoundLaws.{remember-free, alias-free}
+use Rattle.session.specs.SoundLaws.{Bytes, Sound, sound-told, remember-free, alias-free}
 
 -- no rule looks at them ---------------------------------------------------------------------------------------------------------------------
 
@@ -30,16 +33,18 @@ pub record Alike (a b : List ℕ) : Type 0 where
   pub in-area : (i : ℕ) → 4 ≤ i → i < 4 + twoAt b 2 → byteAt a i ≡ byteAt b i
   pub in-line : (i : ℕ) → 836 ≤ i → i < 836 + twoAt b 0 → byteAt a i ≡ byteAt b i
 
+-- a part's bytes are those of the whole
+part-byte : (a : List ℕ) (f t i : ℕ) → i < t - f → byteAt (partOf a f t) i ≡ byteAt a (f + i)
+part-byte a f t i h = getD-take (t - f) (drop f a) i 0 h ∙ getD-drop f a i 0
+
+-- parts with the same bytes are the same
 part-alike : (a b : List ℕ) (f t : ℕ) → length a ≡ length b → ((i : ℕ) → f ≤ i → i < t → byteAt a i ≡ byteAt b i) → partOf a f t ≡ partOf b f t
 part-alike a b f t e h = ext-getD 0 (partOf a f t) (partOf b f t) (simp (length-take, length-drop) (rw e)) at
   where
     at : (i : ℕ) → i < length (partOf a f t) → byteAt (partOf a f t) i ≡ byteAt (partOf b f t) i
     at i k =
         let j : i < t - f = omega (arith, length-take (t - f) (drop f a)) in
-        getD-take (t - f) (drop f a) i 0 j
-        ∙ getD-drop f a i 0
-        ∙ h (f + i) (omega arith) (omega arith)
-        ∙ sym (getD-take (t - f) (drop f b) i 0 j ∙ getD-drop f b i 0)
+        part-byte a f t i j ∙ h (f + i) (omega arith) (omega arith) ∙ sym (part-byte b f t i j)
 
 module _ (a b : List ℕ) (k : Alike a b) where
   alike-line : lineOf a ≡ lineOf b
@@ -60,6 +65,62 @@ module _ (a b : List ℕ) (k : Alike a b) where
       let m = two-same a b 0 (k .lengths 0 (omega arith)) (k .lengths 1 (omega arith)) in
       let n = two-same a b 2 (k .lengths 2 (omega arith)) (k .lengths 3 (omega arith)) in
       (rw (k .size, m, n, alike-line, alike-area), rw (alike-line, alike-area))
+
+-- the others are fixed ----------------------------------------------------------------------------------------------------------------------
+
+-- a number in two bytes has one form
+two-fixed : (a b : List ℕ) (i : ℕ) → Bytes a → Bytes b → twoAt a i ≡ twoAt b i → (byteAt a i ≡ byteAt b i) × (byteAt a (i + 1) ≡ byteAt b (i + 1))
+unfolding twoAt
+two-fixed a b i h k e = (omega (arith, h i, k i, e), omega (arith, h i, k i, e))
+
+-- parts that are the same are as long and have the same bytes
+part-fixed : (a b : List ℕ) (f m n : ℕ) → f + m ≤ length a → f + n ≤ length b → partOf a f (f + m) ≡ partOf b f (f + n) →
+    (m ≡ n) × ((i : ℕ) → f ≤ i → i < f + n → byteAt a i ≡ byteAt b i)
+part-fixed a b f m n h k e =
+    let p = part-length a f (f + m) h in
+    let q = part-length b f (f + n) k in
+    let l : m ≡ n = omega (arith, ap length e) in
+    (l, at l)
+  where
+    at : m ≡ n → (i : ℕ) → f ≤ i → i < f + n → byteAt a i ≡ byteAt b i
+    at l i u v =
+        let j : i ≡ f + (i - f) = omega arith in
+        let x = sym (part-byte a f (f + m) (i - f) (omega arith)) ∙ ap (λ w. byteAt w (i - f)) e ∙ part-byte b f (f + n) (i - f) (omega arith) in
+        ap (byteAt a) j ∙ x ∙ sym (ap (byteAt b) j)
+
+module _ (a b : List ℕ) (k : Bytes a) (m : Bytes b) (p : Sound a) (q : Sound b) (e : sessionOf a ≡ sessionOf b) where
+  -- the line's length and its bytes
+  line-fixed : (twoAt a 0 ≡ twoAt b 0) × ((i : ℕ) → 836 ≤ i → i < 836 + twoAt b 0 → byteAt a i ≡ byteAt b i)
+  unfolding sessionOf lineOf
+  line-fixed = part-fixed a b 836 (twoAt a 0) (twoAt b 0) (omega (arith, p .size, p .line-short)) (omega (arith, q .size, q .line-short)) (ap (λ s. s .line) e)
+
+  -- the aliases' length and their bytes
+  area-fixed : (twoAt a 2 ≡ twoAt b 2) × ((i : ℕ) → 4 ≤ i → i < 4 + twoAt b 2 → byteAt a i ≡ byteAt b i)
+  unfolding sessionOf areaOf
+  area-fixed =
+      let w : areaOf a ≡ areaOf b =
+      sym (area-good (areaOf a) (p .area-rows) .written) ∙ ap (λ s. rowsBytes (s .rows)) e ∙ area-good (areaOf b) (q .area-rows) .written in
+      part-fixed a b 4 (twoAt a 2) (twoAt b 2) (omega (arith, p .size, p .area-short)) (omega (arith, q .size, q .area-short)) w
+
+  -- the bytes of the two lengths
+  lengths-fixed : (i : ℕ) → i < 4 → byteAt a i ≡ byteAt b i
+  lengths-fixed zero h = two-fixed a b 0 k m (line-fixed .0) .0
+  lengths-fixed (suc zero) h = two-fixed a b 0 k m (line-fixed .0) .1
+  lengths-fixed (suc (suc zero)) h = two-fixed a b 2 k m (area-fixed .0) .0
+  lengths-fixed (suc (suc (suc zero))) h = two-fixed a b 2 k m (area-fixed .0) .1
+  lengths-fixed (suc (suc (suc (suc i)))) h = absurd (omega arith)
+
+-- bytes that are taken and are the same session
+pub read-alike : (a b : List ℕ) → Bytes a → Bytes b → sound a ≡ true → sound b ≡ true → sessionOf a ≡ sessionOf b → Alike a b
+read-alike a b k m g h e =
+    let p = sound-told a g in
+    let q = sound-told b h in
+    record {
+      size = p .size ∙ sym (q .size);
+      lengths = lengths-fixed a b k m p q e;
+      in-area = area-fixed a b k m p q e .1;
+      in-line = line-fixed a b k m p q e .1;
+    }
 
 -- no call changes them ----------------------------------------------------------------------------------------------------------------------
 

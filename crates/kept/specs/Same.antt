@@ -1,5 +1,5 @@
--- The order in which aliases are added leaves no trace: two good tables in which every word leads to the same are the same table, and so
--- have the same bytes.
+-- The order in which aliases are added leaves no trace: two good tables in which every word leads to the same are the same table. So bytes
+-- that are taken, with the same lookups and the same line, are the same wherever they are used (`same-used`).
 -- Assumes nothing.
 use mathlib.Core.Path.{_≡_, refl, sym, _∙_, ap}
 use mathlib.Core.Bool.{Bool, true, false}
@@ -16,7 +16,9 @@ use Rattle.aliases.specs.OrderLaws.{order-flip, order-back, order-eq, order-ref
 use Rattle.aliases.specs.Good.{goodRow, goodRows, goodTable}
 use Rattle.aliases.specs.TableLaws.{both, same-eq, same-refl, known-after}
 use Rattle.aliases.specs.declared.order.Order.{Order}
-use Rattle.session.specs.Layout.{Session, WellFormed}
+use Rattle.session.specs.Layout.{Session, WellFormed, sessionOf, sound}
+use Rattle.session.specs.SoundLaws.{Bytes, sound-formed}
+use Rattle.kept.specs.Free.{Alike, read-alike}
 
 -- a word before the first row is in no row
 not-later : (w before : List ℕ) (t : Row) (ts : List Row) (n : ℕ) → goodRows before (t ∷ ts) ≡ true → orderOf w (t .word) ≡ Order.Less → lookupIn (t ∷ ts) w ≡ Named.Command n → ⊥
@@ -100,3 +102,8 @@ same-session s u f g h l =
     let a = both (goodRows [] (s .rows)) (leb (length (s .rows)) 32) (f .aliases) .0 in
     let b = both (goodRows [] (u .rows)) (leb (length (u .rows)) 32) (g .aliases) .0 in
     ap (λ r. record { rows = r; line = s .line }) (same-rows [] (s .rows) (u .rows) a b h) ∙ ap (λ x. record { rows = u .rows; line = x }) l
+
+-- and their used bytes are the same
+pub same-used : (a b : List ℕ) → Bytes a → Bytes b → sound a ≡ true → sound b ≡ true → ((w : List ℕ) → lookupIn (sessionOf a .rows) w ≡ lookupIn (sessionOf b .rows) w) →
+    sessionOf a .line ≡ sessionOf b .line → Alike a b
+same-used a b k m g h w l = read-alike a b k m g h (same-session (sessionOf a) (sessionOf b) (sound-formed a g) (sound-formed b h) w l)
