@@ -1,5 +1,4 @@
 pub mod Kept
 pub mod Free
 pub mod Demands
-pub mod Bytes
 pub mod Same
