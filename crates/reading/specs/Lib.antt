@@ -1,7 +1,9 @@
 pub mod Line
 pub mod WordPlaces
 pub mod WordPlacesLaws
+pub mod Told
 pub mod Alone
+pub mod ToldLaws
 pub mod LineLaws
 pub mod Behind
 pub mod Shift

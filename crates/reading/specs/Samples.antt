@@ -14,12 +14,8 @@ use Rattle.ranges.specs.Range.{isSign, escapedAtom, markAtom, signAtom, numberO
 use Rattle.lists.specs.Text.{quotedEscape, plainEscape, escapeOf, own, stopAt, textEndFrom, textEndAt, bytesFrom, bytesAt}
 use Rattle.lists.specs.Lists.{itemOf, itemAt, textAt, also, itemsFrom, itemsAt, itemsOf, Filename, lone, filenameOf, Option, keyOf, afterKey, plusPlus, flagOf, optionOf, isEmpty, keyless, anyKeyless}
 use Rattle.reading.specs.Line.{skipByte, wordAt, restAt, afterWord, afterRange, startOf, readingOf}
+use Rattle.reading.specs.Told.{Direction, directionTold, Atom, atomTold, ToldEnd, endTold, Separator, separatorTold, ToldRange, specTold}
 use Rattle.reading.specs.Alone.{Answer, Ranged, checked, itemAtPlace, listAnswer, filenamesAlone, stringsAlone, optionsAnswer, optionsAlone, rangeAnswer, rangeAlone}
-use Rattle.ranges.specs.declared.range.RangeEndingType.{RangeEndingType}
-use Rattle.ranges.specs.declared.range.MoveDir1D.{MoveDir1D}
-use Rattle.ranges.specs.declared.range.RangeEnding.{RangeEnding}
-use Rattle.ranges.specs.declared.range.RangeSearchInit.{RangeSearchInit}
-use Rattle.ranges.specs.declared.range.RangeSpec.{RangeSpec}
 use Rattle.reading.specs.declared.line.CommandRead.{CommandRead}
 
 -- readings: the word, the bang and the argument as bytes ---------------------------------------------------------------------------
@@ -91,20 +87,20 @@ numbers = (refl, refl, refl, refl, refl, refl, refl, refl)
 -- ranges ----------------------------------------------------------------------------------------------------------------------------
 
 ranged : String → Ranged
-unfolding isDigit isMark runFrom runAt valueFrom digitsFrom digitsAt isSign escapedAtom markAtom signAtom numberOr atomAt offsetsFrom offsetsAt withOffsets afterAtom endingAt double afterFirst rangeAt wholeOf wholeRange rangeAnswer rangeAlone isUtf8 utf8At utf8From utf8Step followers lowest highest
+unfolding isDigit isMark runFrom runAt valueFrom digitsFrom digitsAt isSign escapedAtom markAtom signAtom numberOr atomAt offsetsFrom offsetsAt withOffsets afterAtom endingAt double afterFirst rangeAt wholeOf wholeRange directionTold atomTold endTold separatorTold specTold rangeAnswer rangeAlone isUtf8 utf8At utf8From utf8Step followers lowest highest
 ranged t = rangeAlone (ascii t)
 
-abbrev end : RangeEndingType → ℕ → ℕ → RangeEnding
+abbrev end : Atom → ℕ → ℕ → ToldEnd
 end a i j = record { atom = a; from = i; to = j }
 
-ranges : (ranged "2,.+4" ≡ Ranged.range (RangeSpec.Double (end (RangeEndingType.Absolute 2) 1 1) (end RangeEndingType.Current 3 5) RangeSearchInit.Cursor))
-    × (ranged "'a+5-3" ≡ Ranged.range (RangeSpec.Single (end (RangeEndingType.Mark 0x61) 2 6)))
-    × (ranged ";" ≡ Ranged.range (RangeSpec.Double (end RangeEndingType.Unspecified 0 0) (end RangeEndingType.Unspecified 1 1) RangeSearchInit.Start))
-    × (ranged "\\/+;\\?" ≡ Ranged.range (RangeSpec.Double (end (RangeEndingType.Search MoveDir1D.Next) 2 3) (end (RangeEndingType.Search MoveDir1D.Previous) 6 6) RangeSearchInit.Start))
-    × (ranged "\\&" ≡ Ranged.range (RangeSpec.Single (end RangeEndingType.SubPatSearch 2 2)))
-    × (ranged "%" ≡ Ranged.range (RangeSpec.Single (end RangeEndingType.All 1 1)))
-    × (ranged "$-" ≡ Ranged.range (RangeSpec.Single (end RangeEndingType.Last 1 2)))
-    × (ranged "18446744073709551615" ≡ Ranged.range (RangeSpec.Single (end (RangeEndingType.Absolute 18446744073709551615) 20 20)))
+ranges : (ranged "2,.+4" ≡ Ranged.range (ToldRange.double (end (Atom.digits 2) 1 1) Separator.comma (end Atom.dot 3 5)))
+    × (ranged "'a+5-3" ≡ Ranged.range (ToldRange.single (end (Atom.mark 0x61) 2 6)))
+    × (ranged ";" ≡ Ranged.range (ToldRange.double (end Atom.unspecified 0 0) Separator.semicolon (end Atom.unspecified 1 1)))
+    × (ranged "\\/+;\\?" ≡ Ranged.range (ToldRange.double (end (Atom.search Direction.next) 2 3) Separator.semicolon (end (Atom.search Direction.previous) 6 6)))
+    × (ranged "\\&" ≡ Ranged.range (ToldRange.single (end Atom.ampersand 2 2)))
+    × (ranged "%" ≡ Ranged.range (ToldRange.single (end Atom.percent 1 1)))
+    × (ranged "$-" ≡ Ranged.range (ToldRange.single (end Atom.dollar 1 2)))
+    × (ranged "18446744073709551615" ≡ Ranged.range (ToldRange.single (end (Atom.digits 18446744073709551615) 20 20)))
     × (ranged "+18446744073709551616" ≡ Ranged.refused 4)
     × (ranged "" ≡ Ranged.refused 3)
     × (ranged " 3" ≡ Ranged.refused 3)

@@ -19,9 +19,10 @@ ghost use lib.Seq.{sets};
 ghost use Rattle.scan.specs.Bytes.{Classes};
 ghost use Rattle.store.specs.Splice.{Room};
 ghost use Rattle.lists.specs.Lists.{textAt, itemsOf, filenameOf};
-ghost use Rattle.lists.specs.Listed.{optionSeen, optionBytes};
+ghost use Rattle.lists.specs.Listed.{optionBytes};
+ghost use Rattle.reading.specs.Told.{filenameTold};
 ghost use Rattle.reading.specs.Alone.{listAnswer, optionsAnswer, rangeAnswer, filenamesAlone, stringsAlone, optionsAlone, rangeAlone};
-ghost use Rattle.reading.specs.Alone.{filenamesTold, stringsTold, optionsTold, rangeTold, told, filenameSeen, filenameBytes, writtenBy, atFront};
+ghost use Rattle.reading.specs.Alone.{filenamesTold, stringsTold, optionsTold, rangeTold, told, filenameSeen, optionCounts, filenameBytes, writtenBy, atFront};
 ghost use Rattle.reading.specs.Checks.{checkOf};
 
 // A refusal; its number is in specs/Alone.antt.
@@ -92,7 +93,7 @@ pub fn check(text: &[u8], size: usize) -> Checked
 fn filename(s: &[u8], x: Item, classes: &[u8; 256], store: &mut [u8]) -> FilenameType
     requires { ⌜ Classes (now classes) ⌝ }
     requires { ⌜ Room (now store) 0 (textAt (now s) (x .start)) ⌝ }
-    ensures kind { λ r. ⌜ r ≡ filenameSeen (filenameOf (now (s .entry)) x) ⌝ }
+    ensures kind { λ r. ⌜ filenameTold r ≡ filenameSeen (filenameOf (now (s .entry)) x) ⌝ }
     ensures written { λ r. ⌜ now (store .exit) ≡ sets (now (store .entry)) 0 (filenameBytes (filenameOf (now (s .entry)) x)) ⌝ }
 {
     if lone(s, x, 0x23) {
@@ -170,7 +171,7 @@ pub fn strings(text: &[u8], place: usize, store: &mut [u8]) -> StringsReply
 
 fn options_in(text: &[u8], place: usize, store: &mut [u8]) -> OptionsReply
     requires { ⌜ length (now text) ≤ length (now store) ⌝ }
-    ensures answer { λ r. ⌜ optionsTold r ≡ told optionSeen (optionsAnswer (now (text .entry)) place (itemsOf (now (text .entry)))) ⌝ }
+    ensures answer { λ r. ⌜ optionsTold r ≡ told optionCounts (optionsAnswer (now (text .entry)) place (itemsOf (now (text .entry)))) ⌝ }
     ensures written { λ r. ⌜ now (store .exit) ≡ atFront (writtenBy optionBytes (optionsAnswer (now (text .entry)) place (itemsOf (now (text .entry))))) (now (store .entry)) ⌝ }
 {
     let classes = classes();
@@ -194,7 +195,7 @@ fn options_in(text: &[u8], place: usize, store: &mut [u8]) -> OptionsReply
 
 // The options of a text: how many there are, and the one at `place`.
 pub fn options(text: &[u8], place: usize, store: &mut [u8]) -> OptionsReply
-    ensures answer { λ r. ⌜ optionsTold r ≡ told optionSeen (optionsAlone (now (text .entry)) place (length (now (store .entry)))) ⌝ }
+    ensures answer { λ r. ⌜ optionsTold r ≡ told optionCounts (optionsAlone (now (text .entry)) place (length (now (store .entry)))) ⌝ }
     ensures written { λ r. ⌜ now (store .exit) ≡ atFront (writtenBy optionBytes (optionsAlone (now (text .entry)) place (length (now (store .entry))))) (now (store .entry)) ⌝ }
 {
     match check(text, store.len()) {

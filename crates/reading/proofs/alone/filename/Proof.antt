@@ -4,6 +4,7 @@ use mathlib.Core.Path.{_≡_, _∙_, sym}
 use native.Mathlib.Omega.{arith}
 use lib.ListN.{length}
 use Rattle.lists.specs.Lists.{filenameOf, textAt}
+use Rattle.reading.specs.Told.{filenameTold}
 use Rattle.reading.specs.Alone.{filenameSeen, filenameBytes}
 use borrow.Author.Needs.{needs}
 use Rattle.reading.proofs.alone.filename.Statement.{statement}
@@ -13,14 +14,14 @@ lone-requires : tie.Need-lone-requires
 lone-requires c κs = search needs
 
 returns : tie.Need-returns
-unfolding filenameSeen filenameBytes filenameOf
+unfolding filenameTold filenameSeen filenameBytes filenameOf
 returns c = (rw (sym (c .before .lone .ensures) ∙ c .if1 .taken), rw (sym (c .before .lone .ensures) ∙ c .if1 .taken))
 
 lone-requires-2 : tie.Need-lone-requires-2
 lone-requires-2 c κs = search needs
 
 returns-2 : tie.Need-returns-2
-unfolding filenameSeen filenameBytes filenameOf
+unfolding filenameTold filenameSeen filenameBytes filenameOf
 returns-2 c =
     let at-if1 = c .before .before in
     let no-hash = sym (at-if1 .before .lone .ensures) ∙ at-if1 .if1 .left in
@@ -34,7 +35,7 @@ same-length : tie.Need-same-length
 same-length c = search needs
 
 returns-3 : tie.Need-returns-3
-unfolding filenameSeen filenameBytes filenameOf
+unfolding filenameTold filenameSeen filenameBytes filenameOf
 returns-3 c =
     let at-if2 = c .before .before .before .before in
     let at-if1 = at-if2 .before .before in
