@@ -20,7 +20,8 @@ use prog.Wp.{Heap, Calls, Loops, WpFn, Tables}
 use ghost.Atoms.{Atoms}
 use contract.Monad.{Fun, fact}
 use contract.Running.{givenOf, tables, tablesOf}
-use types.Kit.{Given, ‵, raw, some, later, _⊛_, ⋆, _$_, _∵_, !, qed, by, move, keep, drop, use1, use3, split, join, pick, rewrite, fsplit, fsplit3, fjoin, fjoin3, feqL, feqI, suffices, frame, await, done}
+use types.Kit.{Given, Item, ‵, raw, some, later, _⊛_, ⋆, _$_, _∵_, !, qed, by, move, keep, drop}
+use types.Kit.{use1, use3, split, join, pick, rewrite, fsplit, fsplit3, fjoin, fjoin3, feqL, feqI, suffices, frame, await, done}
 use types.Run.{look, look-raw, init, store-raw, forget, stop, hop, fld, from, load, addr, of-opd, and-then, no-more, assigns, land, returns, enter, alloc1, alloc0, params1, pass1, pass0, free1, free0}
 use types.Part.{agg, whole, sub, look-in}
 use types.SemTy.{Body}
@@ -72,7 +73,8 @@ stayed = (stay-ref (0 ∷ []) tt (plain (λ _. S.the-row)), (stay-none-slice (1 
 abbrev Core : {M : Type 1} (𝓤 : URA M) (H : Heap 𝓤) (A : Atoms 𝓤) (at-mem : Memory → SProp 𝓤) (run : Routine → Fun 𝓤) → Contract 𝓤
 Core 𝓤 H A at-mem run = tripleOf 𝓤 H A core.signature (core.spec 𝓤 H A at-mem run)
 
-module _ {M : Type 1} (𝓤 : URA M) (H : Heap 𝓤) (A : Atoms 𝓤) (W : Given 𝓤 H A) (at-mem : Memory → SProp 𝓤) (run : Routine → Fun 𝓤) (κ κ₁ κ₂ : Lft) (q q₁ q₂ : Share) (b o : ℕ) (γ : GName) (h : Session) (l t : RefT (List ℕ)) where
+module _ {M : Type 1} (𝓤 : URA M) (H : Heap 𝓤) (A : Atoms 𝓤) (W : Given 𝓤 H A) (at-mem : Memory → SProp 𝓤) (run : Routine → Fun 𝓤) (κ κ₁ κ₂ : Lft) (q q₁ q₂ : Share)
+    (b o : ℕ) (γ : GName) (h : Session) (l t : RefT (List ℕ)) where
   abbrev Arg : Type 0
   Arg = RefT Session × (RefT (List ℕ) × (RefT (List ℕ) × Unit {0}))
 
@@ -98,6 +100,10 @@ module _ {M : Type 1} (𝓤 : URA M) (H : Heap 𝓤) (A : Atoms 𝓤) (W : Given
   abbrev Post : Val → SProp 𝓤
   Post = walkOf 𝓤 H A thin.ended stayed (thin.clauses 𝓤 H A at-mem run) .post (((κ, (κ₁, (κ₂, tt))), (q, (q₁, (q₂, tt))), tt, a, vals), tt)
 
+  -- the tokens of the line's and the store's lifetimes, and what the line owns
+  abbrev Tokens : Item 𝓤
+  Tokens = ‵ (flft κ₁ q₁) ⊛ ‵ (flft κ₂ q₂) ⊛ ‵ ftrue
+
   abbrev Line : Fml
   Line = ShrSlice (named 1) κ₁ u8 .own l (vl ∷ [])
 
@@ -105,9 +111,9 @@ module _ {M : Type 1} (𝓤 : URA M) (H : Heap 𝓤) (A : Atoms 𝓤) (W : Given
   abbrev to-core : Core 𝓤 H A at-mem run .Ghost
   to-core = (((κ₁, (κ₂, tt)), (q₁, (q₂, tt)), tt, (h, (l, (t, tt))), (vs h ∷ [], (vl ∷ [], (vt ∷ [], tt)))), tt)
 
-  goes : Is S.the-row h (vs h ∷ []) → ent 𝓤 (⋆ 𝓤 H A ((‵ (flft κ₁ q₁) ⊛ ‵ (flft κ₂ q₂) ⊛ ‵ ftrue) ∷ ‵ Line ∷ ‵ (MutSlice (named 2) κ₂ u8 .own t (vt ∷ [])) ∷ [])) (Core 𝓤 H A at-mem run .pre to-core)
+  goes : Is S.the-row h (vs h ∷ []) → ent 𝓤 (⋆ 𝓤 H A (Tokens ∷ ‵ Line ∷ ‵ (MutSlice (named 2) κ₂ u8 .own t (vt ∷ [])) ∷ [])) (Core 𝓤 H A at-mem run .pre to-core)
   goes is =
-      qed W ((‵ (flft κ₁ q₁) ⊛ ‵ (flft κ₂ q₂) ⊛ ‵ ftrue) ∷ ‵ Line ∷ ‵ (MutSlice (named 2) κ₂ u8 .own t (vt ∷ [])) ∷ []) ∵ nothing ! $ move ! (3 ∷ 0 ∷ []) $ fjoin ! $ move ! (2 ∷ 0 ∷ []) $ fjoin ! $
+      qed W (Tokens ∷ ‵ Line ∷ ‵ (MutSlice (named 2) κ₂ u8 .own t (vt ∷ [])) ∷ []) ∵ nothing ! $ move ! (3 ∷ 0 ∷ []) $ fjoin ! $ move ! (2 ∷ 0 ∷ []) $ fjoin ! $
       owned ! S.the-row (Is S.the-row) (LL.makes S.the-type S′.the-plain 𝓤 H A) h _ is $ fjoin ! $ move ! (1 ∷ 0 ∷ []) $ join ! $ frame ! $ done !
 
   -- what the core says of its result and of the store's last list
@@ -125,10 +131,12 @@ module _ {M : Type 1} (𝓤 : URA M) (H : Heap 𝓤) (A : Atoms 𝓤) (W : Given
   parts r w is = LL.owed R.the-type R′.the-laws r _ is
 
   exits : (r : Lined) (zs : List ℕ) → Answered r → Stored zs → Left r → length zs ≡ length (t .now) → Is N.the-row (r .reply) (vn (r .reply) ∷ [])
-      → ent 𝓤 (⋆ 𝓤 H A (‵ (fobs γ (S.the-row .coded .code (r .session))) ∷ ‵ (fbor κ (Body (mem S.the-row) b o γ)) ∷ ‵ (flft κ q) ∷ (‵ (flft κ₁ q₁) ⊛ ‵ (flft κ₂ q₂) ⊛ ‵ ftrue) ∷ ‵ Line ∷ ‵ (finally u8 (t .name) zs) ∷ [])) (Post (vn (r .reply)))
+      → ent 𝓤 (⋆ 𝓤 H A (‵ (fobs γ (S.the-row .coded .code (r .session))) ∷ ‵ (fbor κ (Body (mem S.the-row) b o γ)) ∷ ‵ (flft κ q) ∷ Tokens ∷ ‵ Line ∷
+      ‵ (finally u8 (t .name) zs) ∷ [])) (Post (vn (r .reply)))
   exits r zs answered stored left len is =
-      qed W (‵ (fobs γ (S.the-row .coded .code (r .session))) ∷ ‵ (fbor κ (Body (mem S.the-row) b o γ)) ∷ ‵ (flft κ q) ∷ (‵ (flft κ₁ q₁) ⊛ ‵ (flft κ₂ q₂) ⊛ ‵ ftrue) ∷ ‵ Line ∷ ‵ (finally u8 (t .name) zs) ∷ []) ∵
-      suffices ! _ (ends-at 𝓤 H A thin.ended stayed (thin.clauses 𝓤 H A at-mem run) W (((κ, (κ₁, (κ₂, tt))), (q, (q₁, (q₂, tt))), tt, a, vals), tt) (vn (r .reply)) (r .reply) (r .session, (tt, (zs, tt))) (tt, (tt, (len, tt)))) $
+      qed W (‵ (fobs γ (S.the-row .coded .code (r .session))) ∷ ‵ (fbor κ (Body (mem S.the-row) b o γ)) ∷ ‵ (flft κ q) ∷ Tokens ∷ ‵ Line ∷ ‵ (finally u8 (t .name) zs) ∷ []) ∵
+      suffices ! _ (ends-at 𝓤 H A thin.ended stayed (thin.clauses 𝓤 H A at-mem run) W (((κ, (κ₁, (κ₂, tt))), (q, (q₁, (q₂, tt))), tt, a, vals), tt) (vn (r .reply))
+      (r .reply) (r .session, (tt, (zs, tt))) (tt, (tt, (len, tt)))) $
       says-three ! answered stored left $
       move ! (2 ∷ 3 ∷ []) $ join ! $ frame ! $
       -- [obs; the borrow; the line; the last list]
@@ -136,11 +144,14 @@ module _ {M : Type 1} (𝓤 : URA M) (H : Heap 𝓤) (A : Atoms 𝓤) (W : Given
       owned ! N.the-row (Is N.the-row) (LL.makes N.the-type N′.the-plain 𝓤 H A) (r .reply) _ is $ done !
 
   module _ (C : Calls 𝓤 H) (Λ : Loops 𝓤 H) (fm : FmC 𝓤 H (W .laws) C) (known : Triple 𝓤 (C #session·value·input-cmd) (Core 𝓤 H A at-mem run)) where
-    walk : Is (ShrSlice (named 1) κ₁ u8) l (vl ∷ []) → Is (MutSlice (named 2) κ₂ u8) t (vt ∷ []) → ent 𝓤 (onEntry 𝓤 H A thin.signature (κ, (κ₁, (κ₂, tt))) (q, (q₁, (q₂, tt))) a vals) (WpFn 𝓤 H C Λ code.function (vptr b o ∷ vl ∷ vt ∷ []) Post)
+    walk : Is (ShrSlice (named 1) κ₁ u8) l (vl ∷ []) → Is (MutSlice (named 2) κ₂ u8) t (vt ∷ [])
+        → ent 𝓤 (onEntry 𝓤 H A thin.signature (κ, (κ₁, (κ₂, tt))) (q, (q₁, (q₂, tt))) a vals) (WpFn 𝓤 H C Λ code.function (vptr b o ∷ vl ∷ vt ∷ []) Post)
     walk il it =
-        qed W ((‵ (flft κ q) ⊛ (‵ (flft κ₁ q₁) ⊛ ‵ (flft κ₂ q₂) ⊛ ‵ ftrue)) ∷ ‵ (owns (MutRef (named 0) κ S.the-row ∷ ShrSlice (named 1) κ₁ u8 ∷ MutSlice (named 2) κ₂ u8 ∷ []) a vals) ∷ []) ∵ enter ! C Λ code.function (vptr b o ∷ vl ∷ vt ∷ []) _ $
+        qed W ((‵ (flft κ q) ⊛ Tokens) ∷ ‵ (owns (MutRef (named 0) κ S.the-row ∷ ShrSlice (named 1) κ₁ u8 ∷ MutSlice (named 2) κ₂ u8 ∷ []) a vals) ∷ []) ∵
+        enter ! C Λ code.function (vptr b o ∷ vl ∷ vt ∷ []) _ $
         alloc1 ! (λ l₀. alloc1 ! (λ l₁. alloc1 ! (λ l₂. alloc1 ! (λ l₃. alloc1 ! (λ l₄. alloc1 ! (λ l₅. alloc1 ! (λ l₆. alloc1 ! (λ l₇. alloc0 ! $ params1 ! $
-        pass1 ! (init ! 12 refl (tt, tt)) $ pass1 ! (init ! 10 refl (shr-slice-lawful 𝓤 H A W (named 1) κ₁ u8 .typed l (vl ∷ []) il .0)) $ pass1 ! (init ! 8 refl (mut-slice-lawful 𝓤 H A W (named 2) κ₂ u8 .typed t (vt ∷ []) it .0)) $ pass0 ! $
+        pass1 ! (init ! 12 refl (tt, tt)) $ pass1 ! (init ! 10 refl (shr-slice-lawful 𝓤 H A W (named 1) κ₁ u8 .typed l (vl ∷ []) il .0)) $
+        pass1 ! (init ! 8 refl (mut-slice-lawful 𝓤 H A W (named 2) κ₂ u8 .typed t (vt ∷ []) it .0)) $ pass0 ! $
         -- [_7; …; _6; …; _5; …; _4; …; _3; …; _2; …; _1; …; room for _0; …; the tokens; what the parameters own]
         move ! (17 ∷ []) $ fsplit ! $ fsplit3 ! $ drop ! $ move ! (2 ∷ []) $ fsplit ! $ move ! (1 ∷ []) $ fsplit ! $ move ! (1 ∷ []) $ drop ! $
         -- [the store; the line; obs; the borrow; _7; …; the tokens]
@@ -151,36 +162,57 @@ module _ {M : Type 1} (𝓤 : URA M) (H : Heap 𝓤) (A : Atoms 𝓤) (W : Given
         assigns ! (of-opd ! (load ! (from ! (hop ! (look ! 19 refl) (stop !))) (look-raw ! 0 refl))) (from ! (stop !)) (init ! 11 refl (LL.lawful S.the-type S′.the-laws 𝓤 H A W .typed h _ is .0)) $
         -- the store lent on: the pointer, and the slice of it
         assigns ! (addr ! (from ! (fld ! refl (hop ! (look-in ! 15 (sub ! 0 refl (whole !))) (stop !))))) (from ! (stop !)) (init ! 9 refl (tt, tt)) $
-        assigns ! (agg ! (and-then ! (load ! (from ! (stop !)) (look ! 9 refl)) (and-then ! (load ! (from ! (fld ! refl (stop !))) (look-in ! 15 (sub ! 1 refl (whole !)))) (no-more !)))) (from ! (stop !)) (init ! 7 refl (mut-slice-lawful 𝓤 H A W (named 2) κ₂ u8 .typed t (vt ∷ []) it .0)) $
+        assigns ! (agg ! (and-then ! (load ! (from ! (stop !)) (look ! 9 refl))
+        (and-then ! (load ! (from ! (fld ! refl (stop !))) (look-in ! 15 (sub ! 1 refl (whole !)))) (no-more !)))) (from ! (stop !))
+        (init ! 7 refl (mut-slice-lawful 𝓤 H A W (named 2) κ₂ u8 .typed t (vt ∷ []) it .0)) $
         -- the call of the core, with a copy of what the line owns
-        move ! (6 ∷ []) $ use1 W (‵ Line ⊛ ‵ Line) (shr-slice-copy 𝓤 H A W (named 1) κ₁ u8 .twice l (vl ∷ [])) $ split ! $ move ! (6 ∷ 0 ∷ 7 ∷ []) $ use3 W (raw (Core 𝓤 H A at-mem run .pre to-core)) (goes is) $
+        move ! (6 ∷ []) $ use1 W (‵ Line ⊛ ‵ Line) (shr-slice-copy 𝓤 H A W (named 1) κ₁ u8 .twice l (vl ∷ [])) $ split ! $ move ! (6 ∷ 0 ∷ 7 ∷ []) $
+        use3 W (raw (Core 𝓤 H A at-mem run .pre to-core)) (goes is) $
         -- [what the core asks; the line; the session's cell; the open borrow; obs; auth; _7; …; _6; …; _5; …; _4; …; _3; …; _2; …; _1; …; room for _0; …]
-        calls-at ! fm (Core 𝓤 H A at-mem run) known to-core (and-then ! (load ! (from ! (stop !)) (look ! 10 refl)) (and-then ! (load ! (from ! (stop !)) (look ! 16 refl)) (and-then ! (load ! (from ! (stop !)) (look ! 6 refl)) (no-more !)))) (λ w.
-        use1 W (later (some (λ (r : Lined). ((‵ (flft κ₁ q₁) ⊛ ‵ (flft κ₂ q₂) ⊛ ‵ ftrue) ⊛ ‵ (R.the-row .own r (w ∷ []))) ⊛ raw (ensured 𝓤 H A core.ended (core.clauses 𝓤 H A at-mem run) (κ₁, (κ₂, tt)) (h, (l, (t, tt))) tt r)))) (id⊢ 𝓤 _) $ await ! tt $ pick ! (λ r.
+        calls-at ! fm (Core 𝓤 H A at-mem run) known to-core
+        (and-then ! (load ! (from ! (stop !)) (look ! 10 refl))
+        (and-then ! (load ! (from ! (stop !)) (look ! 16 refl)) (and-then ! (load ! (from ! (stop !)) (look ! 6 refl)) (no-more !)))) (λ w.
+        use1 W (later (some (λ (r : Lined). (Tokens ⊛ ‵ (R.the-row .own r (w ∷ []))) ⊛
+        raw (ensured 𝓤 H A core.ended (core.clauses 𝓤 H A at-mem run) (κ₁, (κ₂, tt)) (h, (l, (t, tt))) tt r)))) (id⊢ 𝓤 _) $ await ! tt $ pick ! (λ r.
         -- what the core ensures, at some last list of the store
-        split ! $ move ! (1 ∷ []) $ use1 W (some (λ (zs : Unit {0} × (Unit {0} × (List ℕ × Unit {0}))). ‵ (lasts core.ended (κ₁, (κ₂, tt)) (h, (l, (t, tt))) zs) ⊛ (raw (fact 𝓤 (Answered r)) ⊛ (raw (fact 𝓤 (Stored (zs .1 .1 .0))) ⊛ raw (fact 𝓤 (Left r)))))) (id⊢ 𝓤 _) $ pick ! (λ zs.
-        split ! $ move ! (1 ∷ []) $ split ! $ heard ! (Answered r) (λ answered. split ! $ heard ! (Stored (zs .1 .1 .0)) (λ stored. heard ! (Left r) (λ left. fsplit ! $ drop ! $ fsplit ! $ drop ! $ fsplit ! $ fsplit ! $ move ! (1 ∷ []) $ feqL ! (λ len.
+        split ! $ move ! (1 ∷ []) $ use1 W (some (λ (zs : Unit {0} × (Unit {0} × (List ℕ × Unit {0}))). ‵ (lasts core.ended (κ₁, (κ₂, tt)) (h, (l, (t, tt))) zs) ⊛
+        (raw (fact 𝓤 (Answered r)) ⊛ (raw (fact 𝓤 (Stored (zs .1 .1 .0))) ⊛ raw (fact 𝓤 (Left r)))))) (id⊢ 𝓤 _) $ pick ! (λ zs.
+        split ! $ move ! (1 ∷ []) $ split ! $ heard ! (Answered r) (λ answered. split ! $ heard ! (Stored (zs .1 .1 .0)) (λ stored. heard ! (Left r) (λ left. fsplit ! $
+        drop ! $ fsplit ! $ drop ! $ fsplit ! $ fsplit ! $ move ! (1 ∷ []) $ feqL ! (λ len.
         move ! (2 ∷ []) $ split ! $ move ! (1 ∷ []) $ peeks ! R.the-row (Is R.the-row) (shows 𝓤 H A R.the-row) r (w ∷ []) (λ ir.
         -- [what the result owns; the tokens; the last list; true; the line; the session's cell; the open borrow; obs; auth; _7; …; _6; …; _5; …; room for _4; …; _3; …; _2; …; _1; …; room for _0; …]
-        land ! (from ! (stop !)) (init ! 15 refl (LL.lawful R.the-type R′.the-laws 𝓤 H A W .typed r _ ir .0)) $ rewrite ! 15 (λ (u : Val). ‵ (fat fullShare R′.mir l₄ 0 u)) (ap only (LL.tells R.the-type R′.the-laws r _ ir)) refl $
-        assigns ! (of-opd ! (load ! (from ! (fld ! refl (stop !))) (look-in ! 15 (sub ! 1 refl (whole !))))) (from ! (hop ! (look ! 21 refl) (stop !))) (store-raw ! 5 refl (LL.lawful S.the-type S′.the-laws 𝓤 H A W .typed (r .session) _ (parts r w ir .1 .0) .0)) $
-        assigns ! (of-opd ! (load ! (from ! (fld ! refl (stop !))) (look-in ! 15 (sub ! 0 refl (whole !))))) (from ! (stop !)) (init ! 23 refl (LL.lawful N.the-type N′.the-laws 𝓤 H A W .typed (r .reply) _ (parts r w ir .0) .0)) $
+        land ! (from ! (stop !)) (init ! 15 refl (LL.lawful R.the-type R′.the-laws 𝓤 H A W .typed r _ ir .0)) $
+        rewrite ! 15 (λ (u : Val). ‵ (fat fullShare R′.mir l₄ 0 u)) (ap only (LL.tells R.the-type R′.the-laws r _ ir)) refl $
+        assigns ! (of-opd ! (load ! (from ! (fld ! refl (stop !))) (look-in ! 15 (sub ! 1 refl (whole !))))) (from ! (hop ! (look ! 21 refl) (stop !)))
+        (store-raw ! 5 refl (LL.lawful S.the-type S′.the-laws 𝓤 H A W .typed (r .session) _ (parts r w ir .1 .0) .0)) $
+        assigns ! (of-opd ! (load ! (from ! (fld ! refl (stop !))) (look-in ! 15 (sub ! 0 refl (whole !))))) (from ! (stop !))
+        (init ! 23 refl (LL.lawful N.the-type N′.the-laws 𝓤 H A W .typed (r .reply) _ (parts r w ir .0) .0)) $
         -- the borrow is closed at the session that came back
-        drop ! $ owned ! S.the-row (Is S.the-row) (LL.makes S.the-type S′.the-plain 𝓤 H A) (r .session) _ (parts r w ir .1 .0) $ move ! (5 ∷ 0 ∷ 6 ∷ 7 ∷ 8 ∷ []) $ closes ! tt S.the-row (r .session) (vs (r .session) ∷ []) b o $
+        drop ! $ owned ! S.the-row (Is S.the-row) (LL.makes S.the-type S′.the-plain 𝓤 H A) (r .session) _ (parts r w ir .1 .0) $ move ! (5 ∷ 0 ∷ 6 ∷ 7 ∷ 8 ∷ []) $
+        closes ! tt S.the-row (r .session) (vs (r .session) ∷ []) b o $
         -- [obs; the borrow; its token; the tokens; the last list; true; the line; _7; …; _6; …; _5; …; _4; …; _3; …; _2; …; _1; …; _0; …]
         returns ! (look ! 21 refl) $ forget ! 7 refl $ forget ! 9 refl $ forget ! 11 refl $ forget ! 13 refl $ forget ! 15 refl $ forget ! 17 refl $ forget ! 19 refl $ forget ! 21 refl $
-        move ! (21 ∷ 22 ∷ []) $ free1 ! $ move ! (19 ∷ 20 ∷ []) $ free1 ! $ move ! (17 ∷ 18 ∷ []) $ free1 ! $ move ! (15 ∷ 16 ∷ []) $ free1 ! $ move ! (13 ∷ 14 ∷ []) $ free1 ! $ move ! (11 ∷ 12 ∷ []) $ free1 ! $ move ! (9 ∷ 10 ∷ []) $ free1 ! $ move ! (7 ∷ 8 ∷ []) $ free1 ! $ free0 ! $
+        move ! (21 ∷ 22 ∷ []) $ free1 ! $ move ! (19 ∷ 20 ∷ []) $ free1 ! $ move ! (17 ∷ 18 ∷ []) $ free1 ! $ move ! (15 ∷ 16 ∷ []) $ free1 ! $ move ! (13 ∷ 14 ∷ []) $
+        free1 ! $ move ! (11 ∷ 12 ∷ []) $ free1 ! $ move ! (9 ∷ 10 ∷ []) $ free1 ! $ move ! (7 ∷ 8 ∷ []) $ free1 ! $ free0 ! $
         keep ! (0 ∷ 1 ∷ 2 ∷ 3 ∷ 6 ∷ 4 ∷ []) $ by ! (exits r (zs .1 .1 .0) answered stored left len (parts r w ir .0))))))))))))))))))))
 
 module _ {M : Type 1} (𝓤 : URA M) (H : Heap 𝓤) (A : Atoms 𝓤) (W : Given 𝓤 H A) (at-mem : Memory → SProp 𝓤) (run : Routine → Fun 𝓤) where
-  thin-walks : (C : Calls 𝓤 H) (Λ : Loops 𝓤 H) → FmC 𝓤 H (W .laws) C → Triple 𝓤 (C #session·value·input-cmd) (Core 𝓤 H A at-mem run) → Walks 𝓤 H A thin.ended stayed (WpFn 𝓤 H C Λ code.function) (thin.clauses 𝓤 H A at-mem run)
-  thin-walks C Λ fm known = walked 𝓤 H A thin.ended stayed (thin.clauses 𝓤 H A at-mem run) (WpFn 𝓤 H C Λ code.function) (λ κs. (ptr-vals, (slice-vals, (slice-vals, tt)))) (λ κs. (mut-tells (named 0) (κs .0) S.the-row, (shr-slice-tells (named 1) (κs .1 .0) u8, (mut-slice-tells (named 2) (κs .1 .1 .0) u8, tt))))
-      (λ κs qs bounds a g are. via 𝓤 _ (fst∗ 𝓤 _ (emp 𝓤)) (walk 𝓤 H A W at-mem run (κs .0) (κs .1 .0) (κs .1 .1 .0) (qs .0) (qs .1 .0) (qs .1 .1 .0) (a .0 .ptr .0) (a .0 .ptr .1) (a .0 .name) (a .0 .now) (a .1 .0) (a .1 .1 .0) C Λ fm known (are .1 .0) (are .1 .1 .0)))
+  thin-walks : (C : Calls 𝓤 H) (Λ : Loops 𝓤 H) → FmC 𝓤 H (W .laws) C → Triple 𝓤 (C #session·value·input-cmd) (Core 𝓤 H A at-mem run)
+      → Walks 𝓤 H A thin.ended stayed (WpFn 𝓤 H C Λ code.function) (thin.clauses 𝓤 H A at-mem run)
+  thin-walks C Λ fm known = walked 𝓤 H A thin.ended stayed (thin.clauses 𝓤 H A at-mem run) (WpFn 𝓤 H C Λ code.function) (λ κs. (ptr-vals, (slice-vals, (slice-vals, tt))))
+      (λ κs. (mut-tells (named 0) (κs .0) S.the-row, (shr-slice-tells (named 1) (κs .1 .0) u8, (mut-slice-tells (named 2) (κs .1 .1 .0) u8, tt))))
+      (λ κs qs bounds a g are. via 𝓤 _ (fst∗ 𝓤 _ (emp 𝓤))
+      (walk 𝓤 H A W at-mem run (κs .0) (κs .1 .0) (κs .1 .1 .0) (qs .0) (qs .1 .0) (qs .1 .1 .0) (a .0 .ptr .0) (a .0 .ptr .1) (a .0 .name) (a .0 .now) (a .1 .0)
+      (a .1 .1 .0) C Λ fm known (are .1 .0) (are .1 .1 .0)))
 
-thin-meets : {M : Type 1} (𝓤 : URA M) (H : Heap 𝓤) (A : Atoms 𝓤) → Given 𝓤 H A → (at-mem : Memory → SProp 𝓤) (run : Routine → Fun 𝓤) (𝓣 : Tables 𝓤 H) → Triple 𝓤 (𝓣 .C #session·value·input-cmd) (Core 𝓤 H A at-mem run)
+thin-meets : {M : Type 1} (𝓤 : URA M) (H : Heap 𝓤) (A : Atoms 𝓤) → Given 𝓤 H A → (at-mem : Memory → SProp 𝓤) (run : Routine → Fun 𝓤) (𝓣 : Tables 𝓤 H)
+    → Triple 𝓤 (𝓣 .C #session·value·input-cmd) (Core 𝓤 H A at-mem run)
     → Meets 𝓤 H A thin.signature (WpFn 𝓤 H (𝓣 .C) (𝓣 .Λ) code.function) (thin.spec 𝓤 H A at-mem run)
 thin-meets 𝓤 H A W at-mem run 𝓣 known =
-    walk-meets 𝓤 H A thin.ended stayed W (goes-ref 𝓤 H A W 3 0 tt (plain (λ _. S.the-row)), (goes-none-slice 𝓤 H A W 3 (1 ∷ []) tt (plain (λ _. u8)) yes, (goes-gave-slice 𝓤 H A W 3 2 tt (plain (λ _. u8)), tt))) (thin.clauses 𝓤 H A at-mem run)
+    walk-meets 𝓤 H A thin.ended stayed W (
+      goes-ref 𝓤 H A W 3 0 tt (plain (λ _. S.the-row)),
+      (goes-none-slice 𝓤 H A W 3 (1 ∷ []) tt (plain (λ _. u8)) yes, (goes-gave-slice 𝓤 H A W 3 2 tt (plain (λ _. u8)), tt)),
+    ) (thin.clauses 𝓤 H A at-mem run)
     (WpFn 𝓤 H (𝓣 .C) (𝓣 .Λ) code.function) (WpFn-mono 𝓤 H (W .laws) 𝓣 code.function) (thin-walks 𝓤 H A W at-mem run (𝓣 .C) (𝓣 .Λ) (fmOf 𝓤 H (W .laws) 𝓣) known)
 
 pub input-cmd-spec : {M : Type 1} → stated.statement M
