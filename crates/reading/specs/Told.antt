@@ -26,7 +26,7 @@ filenameTold (FilenameType.Name n) = ToldFilename.name n
 
 -- options -------------------------------------------------------------------------------------------------------------------------
 
--- a text of so many bytes; or a flag with a key of so many and no value; or a flag with a key of so many and a value of so many, or of none
+-- a text of so many bytes; or a flag with a key of so many and no value; or one with a key of so many and a value of so many, perhaps 0
 pub data ToldOption : Type 0 where
   positional : ℕ → ToldOption
   flag : ℕ → ToldOption
