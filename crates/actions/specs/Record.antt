@@ -133,6 +133,26 @@ changeBytes (SizeChange.Exact n) = encode 0 ++ encode n
 changeBytes (SizeChange.Increase n) = encode 1 ++ encode n
 changeBytes (SizeChange.Decrease n) = encode 2 ++ encode n
 
+-- "Flags add up: close QUIT 1, FORCE 2; open FORCE 1, READONLY 2; write FORCE 1."
+abbrev pub closeQuit : ℕ
+closeQuit = 1
+
+abbrev pub closeForce : ℕ
+closeForce = 2
+
+abbrev pub openForce : ℕ
+openForce = 1
+
+abbrev pub openReadonly : ℕ
+openReadonly = 2
+
+abbrev pub writeForce : ℕ
+writeForce = 1
+
+-- none
+abbrev pub noFlags : ℕ
+noFlags = 0
+
 -- the record: a kind, and its parts
 abbrev pub paperRecord : Paper → List ℕ
 paperRecord (Paper.Close t f) = encode 1 ++ (targetBytes t ++ encode (f .bits))

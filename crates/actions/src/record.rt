@@ -19,6 +19,7 @@ use store::put_number;
 ghost use mathlib.Core.List.{_++_};
 ghost use Prim.Native.Nat.{_+_, _≤_, _<_};
 ghost use lib.ListN.{length};
+ghost use Rattle.limits.specs.Limits.{spare};
 ghost use Rattle.scan.specs.Bytes.{Classes};
 ghost use Rattle.store.specs.Sevens.{encode, named};
 ghost use Rattle.lists.specs.Lists.{textAt};
@@ -305,8 +306,8 @@ fn put_window_action(
     classes: &[u8; 256],
 ) -> usize
     requires { ⌜ Classes (now classes) ⌝ }
-    requires { ⌜ at + (40 + length (now s)) ≤ length (now store) ⌝ }
-    ensures { λ r. ⌜ Within (now (store .entry)) (now (store .exit)) at r (paperRecord (windowOf (now (s .entry)) w)) (40 + length (now (s .entry))) ⌝ }
+    requires { ⌜ at + (spare + length (now s)) ≤ length (now store) ⌝ }
+    ensures { λ r. ⌜ Within (now (store .entry)) (now (store .exit)) at r (paperRecord (windowOf (now (s .entry)) w)) (spare + length (now (s .entry))) ⌝ }
 {
     match w {
         WindowAction::Close(t, f) => put_closed(store, at, 1, t, f),
@@ -320,8 +321,8 @@ fn put_window_action(
 
 fn put_tab_action(store: &mut [u8], at: usize, s: &[u8], t: TabAction, classes: &[u8; 256]) -> usize
     requires { ⌜ Classes (now classes) ⌝ }
-    requires { ⌜ at + (40 + length (now s)) ≤ length (now store) ⌝ }
-    ensures { λ r. ⌜ Within (now (store .entry)) (now (store .exit)) at r (paperRecord (tabOf (now (s .entry)) t)) (40 + length (now (s .entry))) ⌝ }
+    requires { ⌜ at + (spare + length (now s)) ≤ length (now store) ⌝ }
+    ensures { λ r. ⌜ Within (now (store .entry)) (now (store .exit)) at r (paperRecord (tabOf (now (s .entry)) t)) (spare + length (now (s .entry))) ⌝ }
 {
     match t {
         TabAction::Close(x, f) => put_closed(store, at, 7, x, f),
@@ -339,8 +340,8 @@ fn put_tab_action(store: &mut [u8], at: usize, s: &[u8], t: TabAction, classes: 
 // Writes the record of an action, whose name, if it has one, has its place in the argument `s`, and answers the place after it.
 pub fn put_action(store: &mut [u8], at: usize, s: &[u8], a: Action, classes: &[u8; 256]) -> usize
     requires { ⌜ Classes (now classes) ⌝ }
-    requires { ⌜ at + (40 + length (now s)) ≤ length (now store) ⌝ }
-    ensures { λ r. ⌜ Within (now (store .entry)) (now (store .exit)) at r (recordOf (now (s .entry)) a) (40 + length (now (s .entry))) ⌝ }
+    requires { ⌜ at + (spare + length (now s)) ≤ length (now store) ⌝ }
+    ensures { λ r. ⌜ Within (now (store .entry)) (now (store .exit)) at r (recordOf (now (s .entry)) a) (spare + length (now (s .entry))) ⌝ }
 {
     match a {
         Action::Window(w) => put_window_action(store, at, s, w, classes),

@@ -6,6 +6,7 @@ use mathlib.Core.List.{List, [], _∷_}
 use Prim.Native.Nat.{ℕ, zero, suc, _+_}
 use lib.Dec.{eqb, leb}
 use lib.ListN.{length, take, drop, getD}
+use Rattle.limits.specs.Limits.{wordLimit, lastCommand, aliasLimit}
 use Rattle.scan.specs.Bytes.{isWord}
 use Rattle.scan.specs.Scan.{runAt}
 use Rattle.words.specs.Words.{Row}
@@ -15,7 +16,7 @@ use Rattle.aliases.specs.declared.order.Order.{Order}
 
 -- "1 to 24 word characters"
 unfoldable pub isAlias : List ℕ → Bool
-isAlias w = leb 1 (length w) && leb (length w) 24 && eqb (runAt isWord w 0) (length w)
+isAlias w = leb 1 (length w) && leb (length w) wordLimit && eqb (runAt isWord w 0) (length w)
 
 unfoldable pub isLess : Order → Bool
 isLess Order.Less = true
@@ -24,7 +25,7 @@ isLess Order.Greater = false
 
 -- a row may stand after the word `before`: an alias of a command, in the order of the words; its word is n bytes long
 unfoldable pub goodRow : List ℕ → ℕ → ℕ → List ℕ → Bool
-goodRow before n command w = eqb (length w) n && leb command 27 && isAlias w && isLess (orderOf before w)
+goodRow before n command w = eqb (length w) n && leb command lastCommand && isAlias w && isLess (orderOf before w)
 
 -- such rows, the first after the word `before`
 unfoldable pub goodRows : List ℕ → List Row → Bool
@@ -33,7 +34,7 @@ goodRows before (r ∷ rs) = goodRow before (length (r .word)) (r .command) (r .
 
 -- at most 32 of them
 unfoldable pub goodTable : List Row → Bool
-goodTable rs = goodRows [] rs && leb (length rs) 32
+goodTable rs = goodRows [] rs && leb (length rs) aliasLimit
 
 -- the same of bytes, once k of them are passed: each row's word is all there
 unfoldable pub goodFrom : ℕ → List ℕ → List ℕ → Bool
@@ -42,4 +43,4 @@ goodFrom (suc k) before (b ∷ bs) = goodFrom k before bs
 goodFrom zero before (n ∷ bs) = goodRow before n (getD bs 0 0) (take n (drop 1 bs)) && goodFrom (n + 1) (take n (drop 1 bs)) bs
 
 unfoldable pub goodArea : List ℕ → Bool
-goodArea a = goodFrom 0 [] a && leb (length (rowsOf a)) 32
+goodArea a = goodFrom 0 [] a && leb (length (rowsOf a)) aliasLimit

@@ -8,6 +8,7 @@ use native.Mathlib.Omega.{arith}
 use lib.ListN.{length, drop, drop-of-length-le, take-append-drop}
 use lib.Seq.{drop-drop}
 use borrow.Author.Tests.{lt-leb}
+use Rattle.limits.specs.Limits.{lastCommand}
 use Rattle.scan.specs.Bytes.{isLetter, isWord}
 use Rattle.scan.specs.Scan.{byteAt, partOf, runFrom}
 use Rattle.scan.specs.RunLaws.{drop-step, run-yes}
@@ -22,7 +23,7 @@ letter-most b = go (isLetter b)
     go false = omega arith
 
 -- a byte below the letters is none
-pub letter-low : (b : ℕ) → b ≤ 27 → letterOf b ≡ 0
+pub letter-low : (b : ℕ) → b ≤ lastCommand → letterOf b ≡ 0
 unfolding letterOf
 letter-low b h = rw (lt-leb 0x41 b (omega arith), lt-leb 0x61 b (omega arith))
 

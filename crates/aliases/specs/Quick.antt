@@ -5,6 +5,7 @@ use mathlib.Core.Bool.{true}
 use mathlib.Core.List.{List, []}
 use Prim.Native.Nat.{ℕ, _+_, _*_, _≤_}
 use lib.ListN.{length, drop}
+use Rattle.limits.specs.Limits.{wordLimit, lastCommand, aliasLimit}
 use Rattle.scan.specs.Scan.{byteAt, partOf}
 use Rattle.aliases.specs.Rows.{rowsOf}
 use Rattle.aliases.specs.RowsLaws.{rowsAt}
@@ -19,8 +20,8 @@ use Rattle.aliases.specs.declared.quick.Walk.{Walk}
 pub record Bounded (s : List ℕ) (from i : ℕ) : Type 0 where
   pub here : i + 2 + byteAt s i ≤ length s
   pub some : 1 ≤ byteAt s i
-  pub few : byteAt s i ≤ 24
-  pub command : byteAt s (i + 1) ≤ 27
+  pub few : byteAt s i ≤ wordLimit
+  pub command : byteAt s (i + 1) ≤ lastCommand
   pub after : Earlier s from (i + 2) (byteAt s i)
 
 -- k such rows, up to i, the last one's word at `from`: at most all bytes but two of each are letters, and where they are, the rows are good
@@ -36,4 +37,4 @@ Walked s w = Passed s (w .from) (w .i) (w .k) × (w .x ≡ numberAt 0 s (w .from
 
 -- r rows, or more than 32: where all bytes but two of each are letters, they are aliases of a session
 abbrev pub Counted : List ℕ → ℕ → Type 0
-Counted s r = r ≤ 32 → lettersOf s + 2 * r ≡ length s → goodArea s ≡ true
+Counted s r = r ≤ aliasLimit → lettersOf s + 2 * r ≡ length s → goodArea s ≡ true

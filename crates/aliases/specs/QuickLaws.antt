@@ -7,6 +7,7 @@ use Prim.Native.Nat.{ℕ, _+_, _*_, _≤_}
 use native.Mathlib.Omega.{arith}
 use lib.ListN.{length, drop}
 use borrow.Author.Tests.{eq-eqb, le-leb}
+use Rattle.limits.specs.Limits.{wordLimit, lastCommand, aliasLimit}
 use Rattle.scan.specs.Bytes.{isWord}
 use Rattle.scan.specs.Scan.{byteAt, partOf, runFrom, runAt}
 use Rattle.scan.specs.PartLaws.{part-length}
@@ -32,9 +33,9 @@ passed-start s =
     }
 
 -- a word of letters is an alias
-letters-alias : (w : List ℕ) → 1 ≤ length w → length w ≤ 24 → lettersOf w ≡ length w → isAlias w ≡ true
+letters-alias : (w : List ℕ) → 1 ≤ length w → length w ≤ wordLimit → lettersOf w ≡ length w → isAlias w ≡ true
 unfolding isAlias runAt
-letters-alias w h k e = rw (le-leb 1 (length w) h, le-leb (length w) 24 k) (eq-eqb (runFrom isWord 0 w) (length w) (omega (arith, letters-run 0 w e)))
+letters-alias w h k e = rw (le-leb 1 (length w) h, le-leb (length w) wordLimit k) (eq-eqb (runFrom isWord 0 w) (length w) (omega (arith, letters-run 0 w e)))
 
 module _ (s : List ℕ) (from i k : ℕ) (p : Passed s from i k) (b : Bounded s from i) where
   its-length : length (partOf s (i + 2) (i + 2 + byteAt s i)) ≡ byteAt s i
@@ -79,7 +80,7 @@ module _ (s : List ℕ) (from i k : ℕ) (p : Passed s from i k) (b : Bounded s 
       }
 
 -- the same of a row that is known to be n bytes long
-pub passed-as : (s : List ℕ) (from i k n : ℕ) → Passed s from i k → byteAt s i ≡ n → i + 2 + n ≤ length s → 1 ≤ n → n ≤ 24 → byteAt s (i + 1) ≤ 27 → Earlier s from (i + 2) n → Passed s (i + 2) (i + 2 + n) (k + 1)
+pub passed-as : (s : List ℕ) (from i k n : ℕ) → Passed s from i k → byteAt s i ≡ n → i + 2 + n ≤ length s → 1 ≤ n → n ≤ wordLimit → byteAt s (i + 1) ≤ lastCommand → Earlier s from (i + 2) n → Passed s (i + 2) (i + 2 + n) (k + 1)
 passed-as s from i k n p e h l m c a =
     let b : Bounded s from i = record { here = omega arith; some = omega arith; few = omega arith; command = c; after = rw e a } in
     rw (sym e) (passed-on s from i k p b)
@@ -88,11 +89,11 @@ passed-as s from i k n p e h l m c a =
 pub passed-few : {s : List ℕ} {from i k : ℕ} → Passed s from i k → k ≤ length s
 passed-few {s} p = omega (arith, p .count, rows-count s)
 
-pub passed-end : {s : List ℕ} {from i k : ℕ} → Passed s from i k → length s ≤ i → k ≤ 32 → lettersOf s + 2 * k ≡ length s → goodArea s ≡ true
+pub passed-end : {s : List ℕ} {from i k : ℕ} → Passed s from i k → length s ≤ i → k ≤ aliasLimit → lettersOf s + 2 * k ≡ length s → goodArea s ≡ true
 unfolding goodArea
 passed-end {s} {from} {i} {k} p l m h =
     let e : goodFrom 0 [] s ≡ true = p .good (omega (arith, p .inside, letters-end s i l)) ∙ good-end _ s i l in
-    rw e (le-leb (length (rowsOf s)) 32 (omega (arith, p .count, ap length (rows-end s i l))))
+    rw e (le-leb (length (rowsOf s)) aliasLimit (omega (arith, p .count, ap length (rows-end s i l))))
 
 -- no bytes are no aliases
 pub good-none : (s : List ℕ) → length s ≡ 0 → goodArea s ≡ true

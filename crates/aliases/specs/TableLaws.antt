@@ -11,6 +11,7 @@ use lib.ListN.{length, take, drop, length-append, length-drop, take-append-drop}
 use lib.Seq.{take-append-seam, drop-append-seam, take-nil}
 use lib.Dec.{eqb, leb}
 use borrow.Author.Tests.{eqb-true, leb-true, eq-eqb, le-leb}
+use Rattle.limits.specs.Limits.{wordLimit, lastCommand, aliasLimit}
 use Rattle.scan.specs.RunLaws.{and-left, and-right}
 use Rattle.words.specs.Words.{Row, same, lookupIn}
 use Rattle.words.specs.declared.words.Named.{Named}
@@ -38,28 +39,28 @@ less-is Order.Greater h = let z : _≡_ {A = ℕ} 0 1 = cc in absurd (omega arit
 -- what a good row says
 pub record Told (before : List ℕ) (n command : ℕ) (w : List ℕ) : Type 0 where
   pub its-length : length w ≡ n
-  pub a-command : command ≤ 27
+  pub a-command : command ≤ lastCommand
   pub an-alias : isAlias w ≡ true
   pub after : orderOf before w ≡ Order.Less
 
 pub row-told : (before : List ℕ) (n command : ℕ) (w : List ℕ) → goodRow before n command w ≡ true → Told before n command w
 unfolding goodRow
 row-told before n command w h =
-    let a = both (eqb (length w) n && leb command 27 && isAlias w) (isLess (orderOf before w)) h in
-    let b = both (eqb (length w) n && leb command 27) (isAlias w) (a .0) in
-    let c = both (eqb (length w) n) (leb command 27) (b .0) in
-    record { its-length = eqb-true (length w) n (c .0); a-command = leb-true command 27 (c .1); an-alias = b .1; after = less-is (orderOf before w) (a .1) }
+    let a = both (eqb (length w) n && leb command lastCommand && isAlias w) (isLess (orderOf before w)) h in
+    let b = both (eqb (length w) n && leb command lastCommand) (isAlias w) (a .0) in
+    let c = both (eqb (length w) n) (leb command lastCommand) (b .0) in
+    record { its-length = eqb-true (length w) n (c .0); a-command = leb-true command lastCommand (c .1); an-alias = b .1; after = less-is (orderOf before w) (a .1) }
 
 pub row-good : (before : List ℕ) (n command : ℕ) (w : List ℕ) → Told before n command w → goodRow before n command w ≡ true
 unfolding goodRow isLess
-row-good before n command w t = rw (eq-eqb (length w) n (t .its-length), le-leb command 27 (t .a-command), t .an-alias, t .after)
+row-good before n command w t = rw (eq-eqb (length w) n (t .its-length), le-leb command lastCommand (t .a-command), t .an-alias, t .after)
 
-pub alias-length : (w : List ℕ) → isAlias w ≡ true → (1 ≤ length w) × (length w ≤ 24)
+pub alias-length : (w : List ℕ) → isAlias w ≡ true → (1 ≤ length w) × (length w ≤ wordLimit)
 unfolding isAlias
 alias-length w h =
-    let a = both (leb 1 (length w) && leb (length w) 24) _ h in
-    let b = both (leb 1 (length w)) (leb (length w) 24) (a .0) in
-    (leb-true 1 (length w) (b .0), leb-true (length w) 24 (b .1))
+    let a = both (leb 1 (length w) && leb (length w) wordLimit) _ h in
+    let b = both (leb 1 (length w)) (leb (length w) wordLimit) (a .0) in
+    (leb-true 1 (length w) (b .0), leb-true (length w) wordLimit (b .1))
 
 -- bytes and rows ----------------------------------------------------------------------------------------------------------------------------
 
@@ -133,19 +134,19 @@ pub record GoodArea (a : List ℕ) : Type 0 where
 pub area-good : (a : List ℕ) → goodArea a ≡ true → GoodArea a
 unfolding goodArea goodTable
 area-good a h =
-    let k = both (goodFrom 0 [] a) (leb (length (rowsOf a)) 32) h in
+    let k = both (goodFrom 0 [] a) (leb (length (rowsOf a)) aliasLimit) h in
     let x = good-exact (suc (length a)) [] a (omega arith) (k .0) in
     record { written = x .written; table = rw (x .rows, k .1) }
 
 pub table-good : (rs : List Row) → goodTable rs ≡ true → goodArea (rowsBytes rs) ≡ true
 unfolding goodArea goodTable
 table-good rs h =
-    let k = both (goodRows [] rs) (leb (length rs) 32) h in
+    let k = both (goodRows [] rs) (leb (length rs) aliasLimit) h in
     rw (good-bytes [] rs (k .0), rows-read rs, k .1)
 
 -- room --------------------------------------------------------------------------------------------------------------------------------------
 
-rows-length : (before : List ℕ) (rs : List Row) → goodRows before rs ≡ true → length (rowsBytes rs) ≤ 26 * length rs
+rows-length : (before : List ℕ) (rs : List Row) → goodRows before rs ≡ true → length (rowsBytes rs) ≤ (wordLimit + 2) * length rs
 unfolding goodRows rowsBytes
 rows-length before [] h = omega arith
 rows-length before (r ∷ rs) h =
@@ -153,11 +154,11 @@ rows-length before (r ∷ rs) h =
     let t = row-told before (length (r .word)) (r .command) (r .word) (k .0) in
     omega (arith, alias-length (r .word) (t .an-alias) .1, rows-length (r .word) rs (k .1), length-append (r .word) (rowsBytes rs))
 
-pub table-length : (rs : List Row) → goodTable rs ≡ true → length (rowsBytes rs) ≤ 832
+pub table-length : (rs : List Row) → goodTable rs ≡ true → length (rowsBytes rs) ≤ aliasLimit * (wordLimit + 2)
 unfolding goodTable
 table-length rs h =
-    let k = both (goodRows [] rs) (leb (length rs) 32) h in
-    omega (arith, rows-length [] rs (k .0), leb-true (length rs) 32 (k .1))
+    let k = both (goodRows [] rs) (leb (length rs) aliasLimit) h in
+    omega (arith, rows-length [] rs (k .0), leb-true (length rs) aliasLimit (k .1))
 
 -- the empty word comes before every alias
 nothing-less : (w : List ℕ) → isAlias w ≡ true → orderOf [] w ≡ Order.Less
@@ -167,7 +168,7 @@ nothing-less (x ∷ w) h = refl
 
 -- one more --------------------------------------------------------------------------------------------------------------------------------------
 
-module _ (w : List ℕ) (c : ℕ) (an-alias : isAlias w ≡ true) (a-command : c ≤ 27) where
+module _ (w : List ℕ) (c : ℕ) (an-alias : isAlias w ≡ true) (a-command : c ≤ lastCommand) where
   new-good : (before : List ℕ) → orderOf before w ≡ Order.Less → goodRow before (length w) c w ≡ true
   new-good before l = row-good before (length w) c w (record { its-length = refl; a-command = a-command; an-alias = an-alias; after = l })
 
@@ -244,17 +245,17 @@ known-length w c n before (r ∷ rs) h e =
         rw x (ap suc (ih y))
 
 -- an alias that is there is replaced, and one that is not is added where fewer than 32 are there: the table stays good
-pub insert-known : (w : List ℕ) (c n : ℕ) (rs : List Row) → isAlias w ≡ true → c ≤ 27 → goodTable rs ≡ true → lookupIn rs w ≡ Named.Command n → goodTable (insert w c rs) ≡ true
+pub insert-known : (w : List ℕ) (c n : ℕ) (rs : List Row) → isAlias w ≡ true → c ≤ lastCommand → goodTable rs ≡ true → lookupIn rs w ≡ Named.Command n → goodTable (insert w c rs) ≡ true
 unfolding goodTable
 insert-known w c n rs a b h e =
-    let k = both (goodRows [] rs) (leb (length rs) 32) h in
+    let k = both (goodRows [] rs) (leb (length rs) aliasLimit) h in
     rw (insert-good w c a b rs [] (nothing-less w a) (k .0), known-length w c n [] rs (k .0) e, k .1)
 
-pub insert-new : (w : List ℕ) (c : ℕ) (rs : List Row) → isAlias w ≡ true → c ≤ 27 → goodTable rs ≡ true → length rs < 32 → goodTable (insert w c rs) ≡ true
+pub insert-new : (w : List ℕ) (c : ℕ) (rs : List Row) → isAlias w ≡ true → c ≤ lastCommand → goodTable rs ≡ true → length rs < aliasLimit → goodTable (insert w c rs) ≡ true
 unfolding goodTable
 insert-new w c rs a b h l =
-    let k = both (goodRows [] rs) (leb (length rs) 32) h in
-    rw (insert-good w c a b rs [] (nothing-less w a) (k .0), le-leb (length (insert w c rs)) 32 (omega (arith, insert-most w c rs)))
+    let k = both (goodRows [] rs) (leb (length rs) aliasLimit) h in
+    rw (insert-good w c a b rs [] (nothing-less w a) (k .0), le-leb (length (insert w c rs)) aliasLimit (omega (arith, insert-most w c rs)))
 
 -- what a word then leads to
 pub lookup-insert : (w v : List ℕ) (c : ℕ) (rs : List Row) → lookupIn (insert w c rs) v ≡ cond (same v w) (Named.Command c) (lookupIn rs v)

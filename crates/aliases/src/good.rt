@@ -3,6 +3,9 @@ use super::add::count;
 use super::order::Order;
 use super::order::compare;
 use super::quick::quickly_good;
+use limits::ALIASES;
+use limits::LAST_COMMAND;
+use limits::WORD;
 use scan::classes::Kind;
 use scan::part::byte_at;
 use scan::part::part;
@@ -21,7 +24,7 @@ pub fn is_alias(w: &[u8], classes: &[u8; 256]) -> bool
     if n == 0 {
         return false;
     }
-    if 24 < n {
+    if WORD < n {
         return false;
     }
     run_end(w, 0, classes, Kind::Word) == n
@@ -45,7 +48,7 @@ fn good_row(before: &[u8], n: u8, command: u8, w: &[u8], classes: &[u8; 256]) ->
     if w.len() != n as usize {
         return false;
     }
-    if 27 < command {
+    if LAST_COMMAND < command {
         return false;
     }
     if !is_alias(w, classes) {
@@ -89,7 +92,7 @@ fn plainly_good(area: &[u8], classes: &[u8; 256]) -> bool
     if !good_rows(area, classes) {
         return false;
     }
-    count(area) <= 32
+    count(area) <= ALIASES
 }
 
 // Whether these bytes are aliases of a session: words of letters quickly.

@@ -5,11 +5,11 @@ use words::words::Named;
 use words::words::lookup;
 ghost use mathlib.Core.Path.{_≡_};
 ghost use mathlib.Core.Bool.{true};
-ghost use mathlib.Core.List.{List, _++_};
+ghost use mathlib.Core.List.{List};
 ghost use Prim.Native.Nat.{ℕ, _+_, _<_, _≤_};
 ghost use lib.ListN.{length};
 ghost use Rattle.scan.specs.Scan.{byteAt, partOf};
-ghost use Rattle.words.specs.Words.{same as sameWord, lookupIn, shipped};
+ghost use Rattle.words.specs.Words.{same as sameWord, lookupIn, tableWith};
 ghost use Rattle.aliases.specs.Rows.{rowsOf};
 ghost use Rattle.aliases.specs.RowsLaws.{rowsAt};
 
@@ -122,7 +122,7 @@ fn find_any(added: &[u8], w: &[u8]) -> Named
 
 // What a word leads to: added aliases come first, then what is shipped.
 pub fn lookup_in(added: &[u8], w: &[u8]) -> Named
-    ensures { λ r. ⌜ r ≡ lookupIn (rowsOf (now (added .entry)) ++ shipped) (now (w .entry)) ⌝ }
+    ensures { λ r. ⌜ r ≡ lookupIn (tableWith (rowsOf (now (added .entry)))) (now (w .entry)) ⌝ }
 {
     match find_any(added, w) {
         Named::Command(n) => Named::Command(n),

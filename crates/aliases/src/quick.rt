@@ -1,17 +1,21 @@
 // A quick test of aliases whose words are letters: it says yes only to what is aliases of a session.
 use super::letters::letters;
+use limits::ALIASES;
+use limits::LAST_COMMAND;
+use limits::WORD;
 use scan::number::eight;
 ghost use mathlib.Core.Path.{_≡_};
 ghost use mathlib.Core.Bool.{true};
 ghost use Prim.Native.Nat.{_+_, _≤_};
 ghost use lib.ListN.{length};
+ghost use Rattle.limits.specs.Limits.{wordLimit};
 ghost use Rattle.scan.specs.Number.{numberAt};
 ghost use Rattle.aliases.specs.Earlier.{Alike, Earlier};
 ghost use Rattle.aliases.specs.Good.{goodArea};
 ghost use Rattle.aliases.specs.Quick.{Passed, Walked, Counted};
 
 // How many bytes the longest row has.
-const ROW: usize = 26;
+const ROW: usize = WORD + 2;
 
 // Rows that are passed: up to `i`, k of them, the last one's word at `from`; x is eight bytes from there on.
 pub struct Walk {
@@ -44,7 +48,7 @@ fn rest_after(s: &[u8], from: usize, at: usize, n: usize) -> bool
     requires { ⌜ from ≤ at ⌝ }
     requires { ⌜ at + n ≤ length (now s) ⌝ }
     requires { ⌜ 8 ≤ n ⌝ }
-    requires { ⌜ n ≤ 24 ⌝ }
+    requires { ⌜ n ≤ wordLimit ⌝ }
     requires { ⌜ Alike (now s) from at 8 ⌝ }
     ensures { λ r. ⌜ (r ≡ true → Earlier (now (s .entry)) from at n) ⌝ }
 {
@@ -65,7 +69,7 @@ fn word_after(s: &[u8], from: usize, x: u64, at: usize, y: u64, n: usize) -> boo
     requires { ⌜ from ≤ at ⌝ }
     requires { ⌜ at + n ≤ length (now s) ⌝ }
     requires { ⌜ 1 ≤ n ⌝ }
-    requires { ⌜ n ≤ 24 ⌝ }
+    requires { ⌜ n ≤ wordLimit ⌝ }
     requires { ⌜ x ≡ numberAt 0 (now s) from 8 ⌝ }
     requires { ⌜ y ≡ numberAt 0 (now s) at 8 ⌝ }
     ensures { λ r. ⌜ (r ≡ true → Earlier (now (s .entry)) from at n) ⌝ }
@@ -97,10 +101,10 @@ fn last_rows(s: &[u8], at: usize, word: usize, passed: usize) -> usize
         if n == 0 {
             return 33;
         }
-        if 24 < n {
+        if WORD < n {
             return 33;
         }
-        if 27 < s[i + 1] {
+        if LAST_COMMAND < s[i + 1] {
             return 33;
         }
         if !bytes_after(s, from, i + 2, n) {
@@ -118,7 +122,7 @@ fn word_soon_after(s: &[u8], from: usize, x: u64, at: usize, y: u64, n: usize) -
     requires { ⌜ from ≤ at ⌝ }
     requires { ⌜ at + n ≤ length (now s) ⌝ }
     requires { ⌜ 1 ≤ n ⌝ }
-    requires { ⌜ n ≤ 24 ⌝ }
+    requires { ⌜ n ≤ wordLimit ⌝ }
     requires { ⌜ x ≡ numberAt 0 (now s) from 8 ⌝ }
     requires { ⌜ y ≡ numberAt 0 (now s) at 8 ⌝ }
     ensures { λ r. ⌜ (r ≡ true → Earlier (now (s .entry)) from at n) ⌝ }
@@ -135,15 +139,15 @@ fn word_soon_after(s: &[u8], from: usize, x: u64, at: usize, y: u64, n: usize) -
 
 // How many bytes a row of n bytes is looked at by: its own, and eight of its word.
 fn room(n: usize) -> usize
-    requires { ⌜ n ≤ 24 ⌝ }
-    ensures { λ r. ⌜ (10 ≤ r) × (n + 2 ≤ r) × (r ≤ 26) ⌝ }
+    requires { ⌜ n ≤ wordLimit ⌝ }
+    ensures { λ r. ⌜ (10 ≤ r) × (n + 2 ≤ r) × (r ≤ wordLimit + 2) ⌝ }
 {
     if n < 8 { 10 } else { n + 2 }
 }
 
 // The rows at the front that are as long as the first: passed without waiting for the length of each.
 fn first_rows(s: &[u8]) -> Walk
-    requires { ⌜ 26 ≤ length (now s) ⌝ }
+    requires { ⌜ wordLimit + 2 ≤ length (now s) ⌝ }
     ensures { λ r. ⌜ Walked (now (s .entry)) r ⌝ }
 {
     let mut i: usize = 0;
@@ -159,7 +163,7 @@ fn first_rows(s: &[u8]) -> Walk
             x: x,
         };
     }
-    if 24 < n {
+    if WORD < n {
         return Walk {
             i: i,
             from: from,
@@ -177,7 +181,7 @@ fn first_rows(s: &[u8]) -> Walk
                 x: x,
             };
         }
-        if 27 < s[i + 1] {
+        if LAST_COMMAND < s[i + 1] {
             return Walk {
                 i: i,
                 from: from,
@@ -225,10 +229,10 @@ fn rows(s: &[u8]) -> usize
         if n == 0 {
             return 33;
         }
-        if 24 < n {
+        if WORD < n {
             return 33;
         }
-        if 27 < s[i + 1] {
+        if LAST_COMMAND < s[i + 1] {
             return 33;
         }
         let y = eight(s, i + 2);
@@ -248,7 +252,7 @@ pub fn quickly_good(area: &[u8]) -> bool
     ensures { λ r. ⌜ (r ≡ true → goodArea (now (area .entry)) ≡ true) ⌝ }
 {
     let k = rows(area);
-    if 32 < k {
+    if ALIASES < k {
         return false;
     }
     letters(area) + 2 * k == area.len()

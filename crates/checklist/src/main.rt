@@ -6,6 +6,7 @@ mod spellings_part;
 use libc::STDOUT_FILENO;
 use orders_part::put_orders;
 use scan::part::part;
+use session::layout::SESSION;
 use session::lent::fresh_in;
 use sheet::sheet::Report;
 use sheet::sheet::flush;
@@ -51,7 +52,7 @@ fn sheet_file() -> i32 {
 
 // The reference sheet's lines, and the line that sums them up.
 fn reference(fd: i32, out: &mut [u8], r: Report) -> Report {
-    let mut session = [0u8; 1860];
+    let mut session = [0u8; SESSION];
     fresh_in(&mut session);
     let at = put_text(out, r.at, b"reference sheet\n");
     let done = run(fd, &mut session, out, start(false, up_to(r, at)));

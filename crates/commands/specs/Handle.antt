@@ -5,10 +5,10 @@ use mathlib.Core.Bool.{cond}
 use mathlib.Core.List.{List}
 use Prim.Native.Nat.{ℕ}
 use lib.Dec.{eqb}
+use Rattle.limits.specs.declared.refusal.Refusal.{Refusal}
 use Rattle.actions.specs.declared.action.Axis.{Axis}
 use Rattle.actions.specs.declared.action.Side.{Side}
 use Rattle.context.specs.declared.context.CommandContext.{CommandContext}
-use Rattle.focus.specs.declared.focus.CommandError.{CommandError}
 use Rattle.handlers.specs.Close.{closeOf, onlyOf, quitOf, quitallOf, tabcloseOf, tabonlyOf, tabfirstOf, tablastOf}
 use Rattle.handlers.specs.declared.done.Done.{Done}
 use Rattle.reading.specs.declared.line.CommandDescription.{CommandDescription}
@@ -58,4 +58,4 @@ handleOf n s d x =
     (cond (eqb n 20) tabfirstOf
     (cond (eqb n 21) tablastOf
     (cond (eqb n 22) (writeOf s d)
-    (cond (eqb n 23) (wallOf d) (Done.Refused CommandError.Unimplemented))))))))))))))))))
+    (cond (eqb n 23) (wallOf d) (Done.Refused Refusal.Unimplemented))))))))))))))))))

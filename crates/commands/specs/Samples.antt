@@ -17,9 +17,9 @@ use Rattle.ranges.specs.Range.{isSign, escapedAtom, markAtom, signAtom, numberO
 use Rattle.lists.specs.Text.{quotedEscape, plainEscape, escapeOf, own, stopAt, textEndFrom, textEndAt, bytesFrom, bytesAt}
 use Rattle.lists.specs.Lists.{itemOf, itemAt, textAt, also, itemsFrom, itemsAt, itemsOf, lone}
 use Rattle.reading.specs.Line.{skipByte, wordAt, restAt, afterWord, afterRange, startOf, readingOf}
-use Rattle.reading.specs.Alone.{checked}
+use Rattle.reading.specs.Alone.{checkFor, checkedFor, lineRoom}
 use Rattle.focus.specs.Sum.{addSame, apart, addIs, addTo, sumFrom, sumAt, sumOf, moved}
-use Rattle.focus.specs.Focus.{errorNo, toward, placed, endFocus, rangeFocus, focusOf, atLeastOne, sized, endCount, rangeCount}
+use Rattle.focus.specs.Focus.{toward, placed, endFocus, rangeFocus, focusOf, atLeastOne, sized, endCount, rangeCount}
 use Rattle.words.specs.Words.{aliases, names, shipped, same, lookupIn}
 use Rattle.context.specs.Context.{fresh}
 use Rattle.handlers.specs.Close.{forced, quitting, oneOf, othersOf, closeWindows, closeTabs}
@@ -56,7 +56,7 @@ says a x = eqb (outNo (a .out)) (x .refusal) && (eqb (a .readings) (x .readings)
 
 -- what a line answers in a session as shipped, with a store of so many bytes
 typed : List ℕ → ℕ → Answer
-unfolding isSpace isColon isDigit isWord isMark isText isPlain isQuoted runFrom runAt valueFrom digitsFrom digitsAt isUtf8 utf8At utf8From utf8Step followers lowest highest encode named isSign escapedAtom markAtom signAtom numberOr atomAt offsetsFrom offsetsAt withOffsets afterAtom endingAt double afterFirst rangeAt wholeOf wholeRange quotedEscape plainEscape escapeOf own stopAt textEndFrom textEndAt bytesFrom bytesAt itemOf itemAt textAt also itemsFrom itemsAt itemsOf lone skipByte wordAt restAt afterWord afterRange startOf readingOf checked addSame apart addIs addTo sumFrom sumAt sumOf moved errorNo toward placed endFocus rangeFocus focusOf atLeastOne sized endCount rangeCount aliases names shipped same lookupIn forced quitting oneOf othersOf closeWindows closeTabs unargued argued either tabRange focusing moving nextBy tabnextOf backEnd back prevBy tabprevOf moveArgument moveRange tabmoveOf onlyOf onlyItem targetOf openedBy opened opening viewing sizedBy sizeOf windowTarget windowBy splitOf vsplitOf switchBy viewOf tabAt tabBy tabeditOf exactBy stepped stepBy endChange rangeChange changeBy changeOf resizeAt resizeBy resizeOf writing writeAs writeBy writeOf wallOf roleOf handleOf byFocus byRole byName byReading decide change outNo outBytes doneOut trim step run runOn lineFrom line
+unfolding isSpace isColon isDigit isWord isMark isText isPlain isQuoted runFrom runAt valueFrom digitsFrom digitsAt isUtf8 utf8At utf8From utf8Step followers lowest highest encode named isSign escapedAtom markAtom signAtom numberOr atomAt offsetsFrom offsetsAt withOffsets afterAtom endingAt double afterFirst rangeAt wholeOf wholeRange quotedEscape plainEscape escapeOf own stopAt textEndFrom textEndAt bytesFrom bytesAt itemOf itemAt textAt also itemsFrom itemsAt itemsOf lone skipByte wordAt restAt afterWord afterRange startOf readingOf checkFor checkedFor lineRoom addSame apart addIs addTo sumFrom sumAt sumOf moved toward placed endFocus rangeFocus focusOf atLeastOne sized endCount rangeCount aliases names shipped same lookupIn forced quitting oneOf othersOf closeWindows closeTabs unargued argued either tabRange focusing moving nextBy tabnextOf backEnd back prevBy tabprevOf moveArgument moveRange tabmoveOf onlyOf onlyItem targetOf openedBy opened opening viewing sizedBy sizeOf windowTarget windowBy splitOf vsplitOf switchBy viewOf tabAt tabBy tabeditOf exactBy stepped stepBy endChange rangeChange changeBy changeOf resizeAt resizeBy resizeOf writing writeAs writeBy writeOf wallOf roleOf handleOf byFocus byRole byName byReading decide change outNo outBytes doneOut trim step run runOn lineFrom line
 typed l size = line shipped fresh l size
 
 agrees : Sample → Bool

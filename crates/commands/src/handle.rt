@@ -1,6 +1,5 @@
 // The handlers by the numbers of their commands, in the order of default_cmds. Prefixes are no part of it.
 use context::context::CommandContext;
-use focus::focus::CommandError;
 use handlers::close::vim_cmd_close;
 use handlers::close::vim_cmd_only;
 use handlers::close::vim_cmd_quit;
@@ -10,6 +9,7 @@ use handlers::close::vim_cmd_tabfirst;
 use handlers::close::vim_cmd_tablast;
 use handlers::close::vim_cmd_tabonly;
 use handlers::done::Done;
+use limits::refusal::Refusal;
 use reading::line::CommandDescription;
 use resize::resize::vim_cmd_resize;
 use tabs::tabs::vim_cmd_tabmove;
@@ -36,7 +36,8 @@ fn split_context(n: u64, x: CommandContext) -> CommandContext
     x
 }
 
-// What the command `n` does with a reading `d` of the text `s`; `!`, `&`, read, print and substitute do nothing yet.
+// What the command `n` does with a reading `d` of the text `s`; `!`, `&`, read, print and substitute, and numbers that no command has, are
+// refused by 11.
 pub fn handle(
     n: u64,
     s: &[u8],
@@ -65,6 +66,6 @@ pub fn handle(
         21 => vim_cmd_tablast(),
         22 => vim_cmd_write(s, d, classes),
         23 => vim_cmd_write_all(d),
-        _ => Done::Refused(CommandError::Unimplemented),
+        _ => Done::Refused(Refusal::Unimplemented),
     }
 }

@@ -3,9 +3,9 @@ use actions::action::Axis;
 use actions::action::FocusChange;
 use actions::action::Side;
 use context::context::CommandContext;
-use focus::focus::CommandError;
 use focus::focus::Focused;
 use focus::focus::window_range_target;
+use limits::refusal::Refusal;
 use reading::line::CommandDescription;
 use words::words::Named;
 ghost use mathlib.Core.Path.{_≡_};
@@ -30,7 +30,7 @@ pub enum Change {
 // What a reading leads to. Unknown has the place of the word, Again that of the argument.
 pub enum Next {
     Empty,
-    Refused(CommandError),
+    Refused(Refusal),
     Unknown(usize, usize),
     Runs(u64, CommandDescription),
     Again(Change, usize, usize),

@@ -2,24 +2,22 @@
 -- Document 01, "For demand 3": "Readings are those begun once 1, 12 and 2 pass: one on the line, one on the argument of each prefix".
 -- Assumes nothing.
 use mathlib.Core.Path.{_≡_, refl, sym, _∙_, ap, subst}
-use mathlib.Core.Bool.{Bool, true, false, cond}
 use mathlib.Core.Logic.{_⊎_, inl, inr}
 use mathlib.Core.List.{List, [], _∷_}
 use Prim.Native.Nat.{ℕ, zero, suc, _+_, _-_, _*_, _≤_, _/_}
 use native.Mathlib.Nat.{le-div-iff-mul-le, add-div-right}
 use native.Mathlib.Omega.{arith}
-use lib.Dec.{leb}
 use lib.ListN.{length}
 use Rattle.scan.specs.PartLaws.{part-first}
 use Rattle.scan.specs.Scan.{byteAt, partOf}
-use Rattle.utf8.specs.Utf8.{isUtf8}
-use Rattle.reading.specs.Alone.{checked}
+use Rattle.reading.specs.Alone.{lineRoom}
+use Rattle.reading.specs.Checks.{checkFor-either}
 use Rattle.reading.specs.Line.{argumentOf}
 use Rattle.reading.specs.LineLaws.{word-bang}
 use Rattle.words.specs.Words.{Row}
 use Rattle.context.specs.Context.{fresh}
 use Rattle.context.specs.declared.context.CommandContext.{CommandContext}
-use Rattle.commands.specs.Run.{Answer, decide, change, trim, step, run, runOn, lineFrom}
+use Rattle.commands.specs.Run.{decide, change, trim, step, run, runOn, lineFrom}
 use Rattle.commands.specs.RunLaws.{trim-length, eff, eff-length, Took, Prefix, prefix-of, prefix-took, prefix-part, shrinks}
 use Rattle.commands.specs.Line.{turned, line}
 use Rattle.commands.specs.declared.next.Next.{Next}
@@ -41,20 +39,10 @@ single [] h = absurd (omega arith)
 single (x ∷ []) h = refl
 single (x ∷ y ∷ w) h = absurd (omega arith)
 
-checked-readings : (l : List ℕ) (size : ℕ) (r : Answer) (n : ℕ) → r .readings ≤ n → checked turned l size r .readings ≤ n
-unfolding checked
-checked-readings l size r n h = go (leb (length l) 1024) (leb (length l + 40) size) (isUtf8 l)
-  where
-    go : (a b c : Bool) → cond a (cond b (cond c r (turned 2)) (turned 12)) (turned 1) .readings ≤ n
-    go true true true = h
-    go true true false = omega arith
-    go true false c = omega arith
-    go false b c = omega arith
-
 module _ (table : List Row) where
   line-readings : (x : CommandContext) (l store : List ℕ) (n : ℕ) → run table (suc (length (trim l))) x (trim l) .readings ≤ n → typed table x l store .readings ≤ n
   unfolding line lineFrom runOn
-  line-readings x l store n h = checked-readings l (length store) (lineFrom table x l) n h
+  line-readings x l store n h = checkFor-either (lineRoom l) l (length store) (λ r. r .readings ≤ n) turned (lineFrom table x l) (λ k. omega arith) h
 
   -- an empty text takes one reading
   run-empty : (n : ℕ) (x : CommandContext) → run table n x [] .readings ≤ 1

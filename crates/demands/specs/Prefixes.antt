@@ -2,25 +2,24 @@
 -- and its argument is that text; so the list goes by one prefix after the other.
 -- Assumes nothing.
 use mathlib.Core.Path.{_≡_, refl, sym, _∙_, ap, subst}
-use mathlib.Core.Bool.{Bool, true, false, cond}
-use mathlib.Core.List.{List, [], _∷_, _++_}
-use Prim.Native.Nat.{ℕ, zero, suc, _+_, _<_}
+use mathlib.Core.List.{List, [], _∷_, _++_, append-assoc}
+use Prim.Native.Nat.{ℕ, zero, suc, _+_, _<_, _≤_}
 use native.Mathlib.Omega.{arith}
 use lib.ListN.{length, drop, length-append, length-drop}
 use lib.Seq.{drop-append-add, drop-append-le}
-use lib.Dec.{leb}
-use borrow.Author.Tests.{le-leb, ne-eqb}
+use borrow.Author.Tests.{ne-eqb}
 use Rattle.scan.specs.Bytes.{isSpace}
 use Rattle.scan.specs.PartLaws.{part-length, part-append, part-rest}
 use Rattle.scan.specs.Scan.{runAt, partOf}
-use Rattle.utf8.specs.Utf8.{isUtf8}
 use Rattle.utf8.specs.Utf8Laws.{utf8-behind}
 use Rattle.scan.specs.RunLaws.{runAt-inside}
 use Rattle.ranges.specs.Stable.{stops-space}
-use Rattle.reading.specs.Alone.{checked}
+use Rattle.reading.specs.Alone.{checkFor, byCheck, checkedFor, lineRoom}
+use Rattle.reading.specs.Checks.{checkFor-good, checkFor-passes, lineRoom-behind}
 use Rattle.reading.specs.Behind.{NoNewline, noNewline-append, noNewline-drop, behind, reading-behind}
 use Rattle.reading.specs.Line.{readingOf, startOf}
 use Rattle.reading.specs.LineLaws.{Parsed, parsed, places}
+use Rattle.reading.specs.declared.alone.Checked.{Checked}
 use Rattle.reading.specs.declared.line.CommandDescription.{CommandDescription}
 use Rattle.reading.specs.declared.line.CommandRead.{CommandRead}
 use Rattle.focus.specs.Focus.{focusOf}
@@ -45,21 +44,17 @@ use Rattle.demands.specs.Statement.{Passes, joined, Accepted, setsTab, s
 passes-behind : (p t store : List ℕ) → Passes (p ++ 32 ∷ t) store → Passes t store
 passes-behind p t store h =
     let e = length-append p (32 ∷ t) in
+    let r : lineRoom t ≤ lineRoom (p ++ 32 ∷ t) = subst (λ v. lineRoom t ≤ lineRoom v) (append-assoc p (32 ∷ []) t) (lineRoom-behind (p ++ 32 ∷ []) t) in
     record { short = omega arith; room = omega arith; good = utf8-behind p t (h .good) }
 
 passes-last : (ps : List (List ℕ)) (t store : List ℕ) → Passes (joined ps t) store → Passes t store
 passes-last [] t store h = h
 passes-last (p ∷ ps) t store h = passes-last ps t store (passes-behind p (joined ps t) store h)
 
-checked-accepted : (l : List ℕ) (size : ℕ) (r : Answer) → Accepted (checked turned l size r .out) → Accepted (r .out)
-unfolding checked
-checked-accepted l size r h = go (leb (length l) 1024) (leb (length l + 40) size) (isUtf8 l) h
-  where
-    go : (a b c : Bool) → Accepted (cond a (cond b (cond c r (turned 2)) (turned 12)) (turned 1) .out) → Accepted (r .out)
-    go true true true k = k
-    go true true false k = absurd k
-    go true false c k = absurd k
-    go false b c k = absurd k
+-- a line that is accepted passed them
+passed-accepted : (r : Answer) (k : Checked) → Accepted (byCheck turned r k .out) → Accepted (r .out)
+passed-accepted r Checked.Good h = h
+passed-accepted r (Checked.Bad x) h = absurd h
 
 -- spaces ------------------------------------------------------------------------------------------------------------------------------
 
@@ -139,12 +134,13 @@ module _ (table : List Row) where
   names-some (x ∷ w) h = omega arith
 
   line-passes : (x : CommandContext) (l store : List ℕ) → Passes l store → typed table x l store ≡ lineFrom table x l
-  unfolding line checked
-  line-passes x l store h = rw (le-leb (length l) 1024 (h .short), le-leb (length l + 40) (length store) (h .room), h .good)
+  unfolding line
+  line-passes x l store h =
+      checkFor-good (lineRoom l) l (length store) (checkFor-passes (lineRoom l) l (length store) (h .short) (h .room) (h .good)) turned (lineFrom table x l)
 
   line-accepted : (x : CommandContext) (l store : List ℕ) → Accepted (typed table x l store .out) → Accepted (runOn table x (trim l) .out)
-  unfolding line lineFrom
-  line-accepted x l store h = checked-accepted l (length store) (lineFrom table x l) h
+  unfolding line lineFrom checkedFor
+  line-accepted x l store h = passed-accepted (lineFrom table x l) (checkFor (lineRoom l) l (length store)) h
 
   -- a prefix that is accepted alone leads on, before a space and another text, to that text
   record Goes (p t : List ℕ) : Type 0 where

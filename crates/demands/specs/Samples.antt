@@ -2,7 +2,7 @@
 -- Document 01, "For demand 3"; section Session: "the Rust accepts any text, `!` included (a difference)".
 -- Assumes nothing.
 use mathlib.Core.Path.{_≡_, refl}
-use mathlib.Core.List.{List, [], _∷_, _++_}
+use mathlib.Core.List.{List, [], _∷_}
 use mathlib.Core.Option.{Option, none, some}
 use Prim.Native.Nat.{ℕ}
 use Prim.Native.String.{String}
@@ -13,11 +13,11 @@ use Rattle.scan.specs.Bytes.{isSpace, isColon, isDigit, isWord, isMark, isText}
 use Rattle.scan.specs.Scan.{runFrom, runAt, valueFrom, digitsFrom, digitsAt}
 use Rattle.utf8.specs.Utf8.{isUtf8, utf8At, utf8From, utf8Step, followers, lowest, highest}
 use Rattle.ranges.specs.Range.{isSign, escapedAtom, markAtom, signAtom, numberOr, atomAt, offsetsFrom, offsetsAt, withOffsets, afterAtom, endingAt, double, afterFirst, rangeAt}
-use Rattle.reading.specs.Alone.{checked}
+use Rattle.reading.specs.Alone.{checkFor, checkedFor, lineRoom}
 use Rattle.reading.specs.Line.{skipByte, wordAt, restAt, afterWord, afterRange, startOf, readingOf}
 use Rattle.focus.specs.Focus.{placed, endFocus, rangeFocus, focusOf}
 use Rattle.focus.specs.Sum.{apart, addIs, addTo, sumFrom, sumAt, sumOf, moved}
-use Rattle.words.specs.Words.{Row, aliases, names, shipped, same, lookupIn}
+use Rattle.words.specs.Words.{Row, aliases, names, shipped, tableWith, same, lookupIn}
 use Rattle.context.specs.Context.{fresh}
 use Rattle.commands.specs.Handle.{roleOf}
 use Rattle.commands.specs.Run.{byFocus, byRole, byName, byReading, roleNamed, decide, change, trim, step, run, runOn, lineFrom}
@@ -36,7 +36,7 @@ prefixes = ascii " :3-1tab!" ∷ ascii "%vert" ∷ []
 
 -- spaces, colons, a range and a bang are a prefix's own; only tab looks at its range
 alone : AllAlone shipped store prefixes
-unfolding store prefixes isSpace isColon isDigit isWord isMark isText runFrom runAt valueFrom digitsFrom digitsAt isUtf8 utf8At utf8From utf8Step followers lowest highest isSign escapedAtom markAtom signAtom numberOr atomAt offsetsFrom offsetsAt withOffsets afterAtom endingAt double afterFirst rangeAt checked skipByte wordAt restAt afterWord afterRange startOf readingOf placed endFocus rangeFocus focusOf apart addIs addTo sumFrom sumAt sumOf moved aliases names shipped same lookupIn roleOf byFocus byRole byName byReading roleNamed decide change trim step run runOn lineFrom line
+unfolding store prefixes isSpace isColon isDigit isWord isMark isText runFrom runAt valueFrom digitsFrom digitsAt isUtf8 utf8At utf8From utf8Step followers lowest highest isSign escapedAtom markAtom signAtom numberOr atomAt offsetsFrom offsetsAt withOffsets afterAtom endingAt double afterFirst rangeAt checkFor checkedFor lineRoom skipByte wordAt restAt afterWord afterRange startOf readingOf placed endFocus rangeFocus focusOf apart addIs addTo sumFrom sumAt sumOf moved aliases names shipped same lookupIn roleOf byFocus byRole byName byReading roleNamed decide change trim step run runOn lineFrom line
 alone = (
   record { its = _; reads = refl; no-argument = refl; names = tt; accepted = tt },
   (record { its = _; reads = refl; no-argument = refl; names = tt; accepted = tt }, tt),
@@ -44,7 +44,7 @@ alone = (
 
 -- ` :3-1tab! %vert !q`: the last text starts with a `!` that is no bang of the prefix before it
 before-bang : ListClaim shipped prefixes (ascii "!q") store
-unfolding store prefixes isUtf8 utf8At utf8From utf8Step followers lowest highest
+unfolding store prefixes lineRoom isUtf8 utf8At utf8From utf8Step followers lowest highest
 before-bang =
     demand3-lists [] prefixes (ascii "!q") store alone
     (refl, (refl, (refl, (refl, (refl, (refl, (refl, (refl, (refl, (refl, (refl, (refl, (refl, (refl, (refl, (refl, (refl, (refl, tt))))))))))))))))))
@@ -53,12 +53,12 @@ before-bang =
 -- the bound -------------------------------------------------------------------------------------------------------------------------------
 
 count : List Row → String → ℕ
-unfolding store isSpace isColon isDigit isWord isMark isText runFrom runAt valueFrom digitsFrom digitsAt isUtf8 utf8At utf8From utf8Step followers lowest highest isSign escapedAtom markAtom signAtom numberOr atomAt offsetsFrom offsetsAt withOffsets afterAtom endingAt double afterFirst rangeAt checked skipByte wordAt restAt afterWord afterRange startOf readingOf placed endFocus rangeFocus focusOf apart addIs addTo sumFrom sumAt sumOf moved aliases names shipped same lookupIn roleOf byFocus byRole byName byReading roleNamed decide change trim step run runOn lineFrom line
-count added t = typed (added ++ shipped) fresh (ascii t) store .readings
+unfolding store isSpace isColon isDigit isWord isMark isText runFrom runAt valueFrom digitsFrom digitsAt isUtf8 utf8At utf8From utf8Step followers lowest highest isSign escapedAtom markAtom signAtom numberOr atomAt offsetsFrom offsetsAt withOffsets afterAtom endingAt double afterFirst rangeAt checkFor checkedFor lineRoom skipByte wordAt restAt afterWord afterRange startOf readingOf placed endFocus rangeFocus focusOf apart addIs addTo sumFrom sumAt sumOf moved aliases names shipped same lookupIn roleOf byFocus byRole byName byReading roleNamed decide change trim step run runOn lineFrom line
+count added t = typed (tableWith added) fresh (ascii t) store .readings
 
 m : List Row → Option ℕ
 unfolding aliases names shipped same lookupIn roleOf roleNamed namesPrefix shortestOf shortest
-m added = shortest (added ++ shipped)
+m added = shortest (tableWith added)
 
 abbrev row : String → ℕ → Row
 row w n = record { word = ascii w; command = n }

@@ -3,7 +3,7 @@
 -- Assumes nothing.
 use mathlib.Core.Path.{_≡_, refl, sym, _∙_, ap, subst}
 use mathlib.Core.Bool.{Bool, true, false, false≢true}
-use mathlib.Core.List.{List, [], _∷_, _++_}
+use mathlib.Core.List.{List, [], _∷_}
 use mathlib.Core.Logic.{_⊎_, inl, inr}
 use mathlib.Core.Option.{Option, none, some}
 use Prim.Native.Nat.{ℕ, _≤_, min}
@@ -16,7 +16,7 @@ use Rattle.scan.specs.Scan.{runAt, runFrom}
 use Rattle.aliases.specs.Good.{isAlias}
 use Rattle.aliases.specs.RowsLaws.{lookup-past}
 use Rattle.aliases.specs.TableLaws.{same-eq}
-use Rattle.words.specs.Words.{Row, aliases, names, shipped, same, lookupIn}
+use Rattle.words.specs.Words.{Row, aliases, names, shipped, tableWith, same, lookupIn}
 use Rattle.words.specs.declared.words.Named.{Named}
 use Rattle.commands.specs.Handle.{roleOf, IsPrefix}
 use Rattle.commands.specs.Run.{roleAt, roleNamed}
@@ -160,15 +160,15 @@ alias-bang w h = go (same (0x21 ∷ []) w) refl
     go true e = absurd (false≢true (ap isAlias (same-eq (0x21 ∷ []) w e) ∙ h))
     go false e = refl
 
-bang-lookup : (added : List Row) → Aliases added → lookupIn (added ++ shipped) (0x21 ∷ []) ≡ lookupIn shipped (0x21 ∷ [])
+bang-lookup : (added : List Row) → Aliases added → lookupIn (tableWith added) (0x21 ∷ []) ≡ lookupIn shipped (0x21 ∷ [])
 bang-lookup [] h = refl
-bang-lookup (r ∷ rs) h = lookup-past r (rs ++ shipped) (0x21 ∷ []) (alias-bang (r .word) (h .0)) ∙ bang-lookup rs (h .1)
+bang-lookup (r ∷ rs) h = lookup-past r (tableWith rs) (0x21 ∷ []) (alias-bang (r .word) (h .0)) ∙ bang-lookup rs (h .1)
 
 -- and the shipped `!` is none
 shipped-bang : lookupIn shipped (0x21 ∷ []) ≡ Named.Command 0
 unfolding shipped aliases names lookupIn same
 shipped-bang = refl
 
-pub bang-none : (added : List Row) → Aliases added → NamesPrefix (added ++ shipped) (0x21 ∷ []) → ⊥
+pub bang-none : (added : List Row) → Aliases added → NamesPrefix (tableWith added) (0x21 ∷ []) → ⊥
 unfolding roleNamed roleOf
 bang-none added h k = subst (λ n. IsPrefix (roleAt n)) (bang-lookup added h ∙ shipped-bang) k

@@ -7,9 +7,11 @@ use mathlib.Core.Bool.{true}
 use mathlib.Core.List.{List, [], _∷_, _++_}
 use Prim.Native.Nat.{ℕ, _+_, _≤_, _/_}
 use lib.ListN.{length}
+use Rattle.limits.specs.Limits.{lineLimit}
 use Rattle.scan.specs.Scan.{partOf}
 use Rattle.utf8.specs.Utf8.{isUtf8}
 use Rattle.ranges.specs.declared.range.RangeRead.{RangeRead}
+use Rattle.reading.specs.Alone.{lineRoom}
 use Rattle.reading.specs.Line.{readingOf}
 use Rattle.reading.specs.Behind.{NoNewline}
 use Rattle.reading.specs.declared.line.CommandDescription.{CommandDescription}
@@ -31,8 +33,8 @@ use Rattle.commands.specs.declared.next.Role.{Role}
 
 -- the line l passes the checks 1, 12 and 2
 pub record Passes (l store : List ℕ) : Type 0 where
-  pub short : length l ≤ 1024
-  pub room : length l + 40 ≤ length store
+  pub short : length l ≤ lineLimit
+  pub room : lineRoom l ≤ length store
   pub good : isUtf8 l ≡ true
 
 -- the prefixes, one space after each, then the last text

@@ -1,6 +1,8 @@
 // Takes all of standard input as one line, runs it on a fresh session, and prints refusal, readings and, in hex, what was written.
 use libc::STDIN_FILENO;
 use libc::STDOUT_FILENO;
+use limits::LINE;
+use limits::STORE;
 use run::reply::LineReply;
 use scan::part::part;
 use session::value::fresh;
@@ -32,11 +34,11 @@ fn print_reply(r: LineReply, store: &[u8]) {
     io::write_all(STDOUT_FILENO, b"\n");
 }
 
-// A line has at most 1,024 bytes: one byte more shows that it is longer.
+// One byte more than a line may have shows that it is longer.
 fn main() {
-    let mut line = [0u8; 1025];
+    let mut line = [0u8; LINE + 1];
     let n = io::read_full(STDIN_FILENO, &mut line);
-    let mut store = [0u8; 1065];
+    let mut store = [0u8; STORE + 1];
     let lined = input_cmd(fresh(), part(&line, 0, n), &mut store);
     let reply = lined.reply;
     print_reply(reply, &store);

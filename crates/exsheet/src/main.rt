@@ -3,6 +3,7 @@
 use libc::STDIN_FILENO;
 use libc::STDOUT_FILENO;
 use scan::part::part;
+use session::layout::SESSION;
 use session::lent::fresh_in;
 use sheet::sheet::flush;
 use sheet::sheet::fresh_report;
@@ -55,7 +56,7 @@ fn with_aliases(session: &mut [u8], out: &mut [u8]) -> bool {
 }
 
 fn main() {
-    let mut session = [0u8; 1860];
+    let mut session = [0u8; SESSION];
     let mut out = io::large_buffer();
     fresh_in(&mut session);
     if with_aliases(&mut session, &mut out) {

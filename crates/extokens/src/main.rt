@@ -2,6 +2,7 @@
 // past the last.
 use libc::STDIN_FILENO;
 use libc::STDOUT_FILENO;
+use limits::LINE;
 use scan::part::part;
 use scanner::token::Position;
 use scanner::token::Token;
@@ -47,7 +48,7 @@ fn print_tokens(line: &[u8]) {
 
 // A line has at most 1,024 bytes: what comes behind them is not read.
 fn main() {
-    let mut line = [0u8; 1024];
+    let mut line = [0u8; LINE];
     let n = io::read_full(STDIN_FILENO, &mut line);
     print_tokens(part(&line, 0, n));
 }

@@ -3,17 +3,15 @@
 -- Assumes nothing.
 use mathlib.Core.Bool.{Bool, true, false, cond}
 use mathlib.Core.List.{List, [], _∷_}
-use Prim.Native.Nat.{ℕ, zero, suc, _+_, _-_, _^_}
+use Prim.Native.Nat.{ℕ, zero, suc, _+_, _-_}
 use lib.ListN.{drop}
 use lib.Dec.{eqb, leb}
+use Rattle.limits.specs.Limits.{most}
 use Rattle.scan.specs.Scan.{digitsFrom}
 use Rattle.scan.specs.declared.decimal.Decimal.{Decimal}
 use Rattle.ranges.specs.Range.{isSign}
 use Rattle.ranges.specs.declared.range.MoveDir1D.{MoveDir1D}
 use Rattle.focus.specs.declared.sum.Sum.{Sum}
-
-abbrev pub most : ℕ
-most = 2 ^ 64 - 1
 
 -- the same direction adds
 unfoldable pub addSame : MoveDir1D → ℕ → ℕ → Sum

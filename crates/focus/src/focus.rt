@@ -4,6 +4,8 @@ use super::sum::moved;
 use super::sum::sum_mods;
 use actions::action::Count;
 use actions::action::FocusChange;
+use limits::MOST;
+use limits::refusal::Refusal;
 use ranges::again::ending_again;
 use ranges::again::spec_again;
 use ranges::range::RangeEnding;
@@ -14,26 +16,16 @@ use scan::part::text_again;
 ghost use mathlib.Core.Path.{_≡_};
 ghost use Rattle.focus.specs.Focus.{toward as towardOf, placed as placedOf, endFocus, rangeFocus, focusOf, atLeastOne, sized as sizedOf, endCount, rangeCount};
 
-// How a handler refuses; the numbers are in specs/Focus.antt.
-pub enum CommandError {
-    ParseFailed,
-    NumberTooLarge,
-    InvalidArgument,
-    InvalidRange,
-    SumTooLarge,
-    Unimplemented,
-}
-
 // The focus that a range names, or a refusal.
 pub enum Focused {
     To(FocusChange),
-    Refused(CommandError),
+    Refused(Refusal),
 }
 
 // The count that a range names, or a refusal.
 pub enum Counted {
     Exact(u64),
-    Refused(CommandError),
+    Refused(Refusal),
 }
 
 // The same focus, taken apart by its cases and put together again, so that its parts travel in registers.
@@ -54,7 +46,7 @@ fn toward(s: Sum, wrap: bool) -> Focused
 {
     match s {
         Sum::Is(d, k) => Focused::To(FocusChange::Direction1D(d, Count::Exact(k), wrap)),
-        Sum::Over => Focused::Refused(CommandError::SumTooLarge),
+        Sum::Over => Focused::Refused(Refusal::SumTooLarge),
     }
 }
 
@@ -63,7 +55,7 @@ fn placed(n: u64, s: Sum) -> Focused
 {
     match s {
         Sum::Is(d, k) => Focused::To(FocusChange::Offset(moved(n, d, k))),
-        Sum::Over => Focused::Refused(CommandError::SumTooLarge),
+        Sum::Over => Focused::Refused(Refusal::SumTooLarge),
     }
 }
 
@@ -82,12 +74,12 @@ fn end_focus(s: &[u8], e: RangeEnding, wrap: bool) -> Focused
             if from == to {
                 return Focused::To(FocusChange::End);
             }
-            Focused::Refused(CommandError::InvalidRange)
+            Focused::Refused(Refusal::InvalidRange)
         }
-        RangeEndingType::All => Focused::Refused(CommandError::InvalidRange),
-        RangeEndingType::Search(_) => Focused::Refused(CommandError::InvalidRange),
-        RangeEndingType::SubPatSearch => Focused::Refused(CommandError::InvalidRange),
-        RangeEndingType::Mark(_) => Focused::Refused(CommandError::InvalidRange),
+        RangeEndingType::All => Focused::Refused(Refusal::InvalidRange),
+        RangeEndingType::Search(_) => Focused::Refused(Refusal::InvalidRange),
+        RangeEndingType::SubPatSearch => Focused::Refused(Refusal::InvalidRange),
+        RangeEndingType::Mark(_) => Focused::Refused(Refusal::InvalidRange),
     }
 }
 
@@ -96,7 +88,7 @@ pub fn range_to_fc(s: &[u8], g: RangeSpec, wrap: bool) -> Focused
 {
     match g {
         RangeSpec::Single(e) => end_focus(s, ending_again(e), wrap),
-        RangeSpec::Double(_, _, _) => Focused::Refused(CommandError::InvalidRange),
+        RangeSpec::Double(_, _, _) => Focused::Refused(Refusal::InvalidRange),
     }
 }
 
@@ -107,7 +99,7 @@ pub fn window_range_target(s: &[u8], g: RangeRead) -> Focused
     match g {
         RangeRead::Found(r, _) => range_to_fc(s, spec_again(r), false),
         RangeRead::Absent => Focused::To(FocusChange::Current),
-        RangeRead::TooLarge => Focused::Refused(CommandError::NumberTooLarge),
+        RangeRead::TooLarge => Focused::Refused(Refusal::NumberTooLarge),
     }
 }
 
@@ -122,7 +114,7 @@ fn sized(n: u64, s: Sum) -> Counted
 {
     match s {
         Sum::Is(d, k) => Counted::Exact(at_least_one(moved(n, d, k))),
-        Sum::Over => Counted::Refused(CommandError::SumTooLarge),
+        Sum::Over => Counted::Refused(Refusal::SumTooLarge),
     }
 }
 
@@ -134,13 +126,13 @@ fn end_count(s: &[u8], e: RangeEnding) -> Counted
     let from = e.from;
     match a {
         RangeEndingType::Absolute(n) => sized(n, sum_mods(text_again(s), from)),
-        RangeEndingType::Unspecified => Counted::Exact(18446744073709551615),
-        RangeEndingType::Current => Counted::Exact(18446744073709551615),
-        RangeEndingType::Last => Counted::Exact(18446744073709551615),
-        RangeEndingType::All => Counted::Exact(18446744073709551615),
-        RangeEndingType::Search(_) => Counted::Exact(18446744073709551615),
-        RangeEndingType::SubPatSearch => Counted::Exact(18446744073709551615),
-        RangeEndingType::Mark(_) => Counted::Exact(18446744073709551615),
+        RangeEndingType::Unspecified => Counted::Exact(MOST),
+        RangeEndingType::Current => Counted::Exact(MOST),
+        RangeEndingType::Last => Counted::Exact(MOST),
+        RangeEndingType::All => Counted::Exact(MOST),
+        RangeEndingType::Search(_) => Counted::Exact(MOST),
+        RangeEndingType::SubPatSearch => Counted::Exact(MOST),
+        RangeEndingType::Mark(_) => Counted::Exact(MOST),
     }
 }
 

@@ -1,4 +1,5 @@
 // The sum of offsets.
+use limits::MOST;
 use ranges::range::MoveDir1D;
 use ranges::range::Offset;
 use ranges::range::is_sign;
@@ -21,7 +22,7 @@ pub enum Sum {
 fn add_same(d: MoveDir1D, n: u64, k: u64) -> Sum
     ensures { λ r. ⌜ r ≡ addSame d n k ⌝ }
 {
-    if k <= 18446744073709551615 - n {
+    if k <= MOST - n {
         return Sum::Is(d, n + k);
     }
     Sum::Over
@@ -129,10 +130,10 @@ pub fn moved(n: u64, d: MoveDir1D, k: u64) -> u64
 {
     match d {
         MoveDir1D::Next => {
-            if k <= 18446744073709551615 - n {
+            if k <= MOST - n {
                 return n + k;
             }
-            18446744073709551615
+            MOST
         }
         MoveDir1D::Previous => {
             if k <= n {

@@ -6,10 +6,10 @@ use actions::action::TabAction;
 use actions::action::Target;
 use actions::action::WindowAction;
 use actions::flags::CloseFlags;
-use focus::focus::CommandError;
 use focus::focus::Focused;
 use focus::focus::focus_again;
 use focus::focus::window_range_target;
+use limits::refusal::Refusal;
 use reading::line::CommandDescription;
 ghost use mathlib.Core.Path.{_≡_};
 ghost use Rattle.handlers.specs.Close.{forced as forcedOf, quitting as quittingOf, oneOf, othersOf, closeWindows, closeTabs, closeOf, onlyOf, quitOf, quitallOf, tabcloseOf, tabonlyOf, tabfirstOf, tablastOf};
@@ -17,7 +17,7 @@ ghost use Rattle.handlers.specs.Close.{forced as forcedOf, quitting as q
 // What is closed, or a refusal.
 pub enum Closed {
     At(Target),
-    Refused(CommandError),
+    Refused(Refusal),
 }
 
 fn forced(bang: bool) -> CloseFlags

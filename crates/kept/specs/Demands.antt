@@ -7,6 +7,7 @@ use mathlib.Core.List.{List, [], _∷_}
 use Prim.Native.Nat.{ℕ, _+_, _≤_}
 use lib.Dec.{leb}
 use lib.ListN.{length}
+use Rattle.limits.specs.Limits.{aliasLimit}
 use Rattle.words.specs.Words.{Row}
 use Rattle.aliases.specs.Good.{goodRow, goodRows, goodTable}
 use Rattle.aliases.specs.TableLaws.{both, row-told}
@@ -31,7 +32,7 @@ rows-aliases before (r ∷ rs) h =
 
 pub good-aliases : (rs : List Row) → goodTable rs ≡ true → Aliases rs
 unfolding goodTable
-good-aliases rs h = rows-aliases [] rs (both (goodRows [] rs) (leb (length rs) 32) h .0)
+good-aliases rs h = rows-aliases [] rs (both (goodRows [] rs) (leb (length rs) aliasLimit) h .0)
 
 -- a session ---------------------------------------------------------------------------------------------------------------------------------
 

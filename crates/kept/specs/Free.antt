@@ -9,19 +9,19 @@ use mathlib.Core.Logic.{_⊎_, inl, inr}
 use Prim.Native.Nat.{ℕ, zero, suc, _+_, _-_, _<_, _≤_}
 use native.Mathlib.Omega.{arith}
 use native.Mathlib.Decide.{decLt}
-use lib.Dec.{eqb, leb}
+use lib.Dec.{eqb}
 use lib.ListN.{length, drop, length-take, length-drop}
 use lib.Seq.{ext-getD, getD-take, getD-drop}
 use Rattle.scan.specs.Scan.{byteAt, partOf}
 use Rattle.scan.specs.PartLaws.{part-length}
-use Rattle.utf8.specs.Utf8.{isUtf8}
-use Rattle.reading.specs.Alone.{checked}
+use Rattle.reading.specs.Alone.{lineRoom}
+use Rattle.reading.specs.Checks.{checkFor-either}
 use Rattle.aliases.specs.Rows.{rowsBytes}
 use Rattle.aliases.specs.Add.{insert}
 use Rattle.aliases.specs.TableLaws.{area-good}
-use Rattle.session.specs.Layout.{fresh, twoAt, areaOf, lineOf, sessionOf, remembering, aliasing, written, sound}
+use Rattle.session.specs.Layout.{lineCount, areaCount, areaPlace, linePlace, sessionSize, fresh, twoAt, areaOf, lineOf, sessionOf, remembering, aliasing, written, sound}
 use Rattle.session.specs.SetsLaws.{two-same}
-use Rattle.session.specs.Lent.{freshBytes, lineBytes, aliasNo, aliasBytes}
+use Rattle.session.specs.Lent.{freshBytes, bytesOn, lineBytes, aliasNo, aliasBytes}
 use Rattle.session.specs.SoundLaws.{Bytes, Sound, sound-told, remember-free, alias-free}
 
 -- no rule looks at them ---------------------------------------------------------------------------------------------------------------------
@@ -29,9 +29,9 @@ use Rattle.session.specs.SoundLaws.{Bytes, Sound, sound-told, remember-free, al
 -- as long, and the same where b is used: in the two lengths, in the aliases and in the line
 pub record Alike (a b : List ℕ) : Type 0 where
   pub size : length a ≡ length b
-  pub lengths : (i : ℕ) → i < 4 → byteAt a i ≡ byteAt b i
-  pub in-area : (i : ℕ) → 4 ≤ i → i < 4 + twoAt b 2 → byteAt a i ≡ byteAt b i
-  pub in-line : (i : ℕ) → 836 ≤ i → i < 836 + twoAt b 0 → byteAt a i ≡ byteAt b i
+  pub lengths : (i : ℕ) → i < areaPlace → byteAt a i ≡ byteAt b i
+  pub in-area : (i : ℕ) → areaPlace ≤ i → i < areaPlace + twoAt b areaCount → byteAt a i ≡ byteAt b i
+  pub in-line : (i : ℕ) → linePlace ≤ i → i < linePlace + twoAt b lineCount → byteAt a i ≡ byteAt b i
 
 -- a part's bytes are those of the whole
 part-byte : (a : List ℕ) (f t i : ℕ) → i < t - f → byteAt (partOf a f t) i ≡ byteAt a (f + i)
@@ -50,14 +50,14 @@ module _ (a b : List ℕ) (k : Alike a b) where
   alike-line : lineOf a ≡ lineOf b
   unfolding lineOf
   alike-line =
-      ap (λ (n : ℕ). partOf a 836 (836 + n)) (two-same a b 0 (k .lengths 0 (omega arith)) (k .lengths 1 (omega arith)))
-      ∙ part-alike a b 836 (836 + twoAt b 0) (k .size) (k .in-line)
+      ap (λ (n : ℕ). partOf a linePlace (linePlace + n)) (two-same a b 0 (k .lengths 0 (omega arith)) (k .lengths 1 (omega arith)))
+      ∙ part-alike a b linePlace (linePlace + twoAt b lineCount) (k .size) (k .in-line)
 
   alike-area : areaOf a ≡ areaOf b
   unfolding areaOf
   alike-area =
-      ap (λ (n : ℕ). partOf a 4 (4 + n)) (two-same a b 2 (k .lengths 2 (omega arith)) (k .lengths 3 (omega arith)))
-      ∙ part-alike a b 4 (4 + twoAt b 2) (k .size) (k .in-area)
+      ap (λ (n : ℕ). partOf a areaPlace (areaPlace + n)) (two-same a b 2 (k .lengths 2 (omega arith)) (k .lengths 3 (omega arith)))
+      ∙ part-alike a b areaPlace (areaPlace + twoAt b areaCount) (k .size) (k .in-area)
 
   pub alike-read : (sound a ≡ sound b) × (sessionOf a ≡ sessionOf b)
   unfolding sound sessionOf
@@ -90,20 +90,20 @@ part-fixed a b f m n h k e =
 
 module _ (a b : List ℕ) (k : Bytes a) (m : Bytes b) (p : Sound a) (q : Sound b) (e : sessionOf a ≡ sessionOf b) where
   -- the line's length and its bytes
-  line-fixed : (twoAt a 0 ≡ twoAt b 0) × ((i : ℕ) → 836 ≤ i → i < 836 + twoAt b 0 → byteAt a i ≡ byteAt b i)
+  line-fixed : (twoAt a lineCount ≡ twoAt b lineCount) × ((i : ℕ) → linePlace ≤ i → i < linePlace + twoAt b lineCount → byteAt a i ≡ byteAt b i)
   unfolding sessionOf lineOf
-  line-fixed = part-fixed a b 836 (twoAt a 0) (twoAt b 0) (omega (arith, p .size, p .line-short)) (omega (arith, q .size, q .line-short)) (ap (λ s. s .line) e)
+  line-fixed = part-fixed a b linePlace (twoAt a lineCount) (twoAt b lineCount) (omega (arith, p .size, p .line-short)) (omega (arith, q .size, q .line-short)) (ap (λ s. s .line) e)
 
   -- the aliases' length and their bytes
-  area-fixed : (twoAt a 2 ≡ twoAt b 2) × ((i : ℕ) → 4 ≤ i → i < 4 + twoAt b 2 → byteAt a i ≡ byteAt b i)
+  area-fixed : (twoAt a areaCount ≡ twoAt b areaCount) × ((i : ℕ) → areaPlace ≤ i → i < areaPlace + twoAt b areaCount → byteAt a i ≡ byteAt b i)
   unfolding sessionOf areaOf
   area-fixed =
       let w : areaOf a ≡ areaOf b =
       sym (area-good (areaOf a) (p .area-rows) .written) ∙ ap (λ s. rowsBytes (s .rows)) e ∙ area-good (areaOf b) (q .area-rows) .written in
-      part-fixed a b 4 (twoAt a 2) (twoAt b 2) (omega (arith, p .size, p .area-short)) (omega (arith, q .size, q .area-short)) w
+      part-fixed a b areaPlace (twoAt a areaCount) (twoAt b areaCount) (omega (arith, p .size, p .area-short)) (omega (arith, q .size, q .area-short)) w
 
   -- the bytes of the two lengths
-  lengths-fixed : (i : ℕ) → i < 4 → byteAt a i ≡ byteAt b i
+  lengths-fixed : (i : ℕ) → i < areaPlace → byteAt a i ≡ byteAt b i
   lengths-fixed zero h = two-fixed a b 0 k m (line-fixed .0) .0
   lengths-fixed (suc zero) h = two-fixed a b 0 k m (line-fixed .0) .1
   lengths-fixed (suc (suc zero)) h = two-fixed a b 2 k m (area-fixed .0) .0
@@ -126,32 +126,29 @@ read-alike a b k m g h e =
 
 module _ (b : List ℕ) (i : ℕ) where
   -- a fresh session is written in four bytes
-  pub fresh-free : 4 ≤ i → byteAt (freshBytes b) i ≡ byteAt b i
+  pub fresh-free : areaPlace ≤ i → byteAt (freshBytes b) i ≡ byteAt b i
   unfolding freshBytes written rowsBytes
-  fresh-free h = go (eqb (length b) 1860)
+  fresh-free h = go (eqb (length b) sessionSize)
     where
-      side : Dec (i < 836) → (i < 836) ⊎ (836 + 0 ≤ i)
+      side : Dec (i < linePlace) → (i < linePlace) ⊎ (linePlace + 0 ≤ i)
       side (yes k) = inl k
       side (no k) = inr (omega arith)
 
       go : (x : Bool) → byteAt (cond x (written fresh b) b) i ≡ byteAt b i
-      go true = alias-free [] (remembering [] b) i (inr (omega arith)) ∙ remember-free [] b i (omega arith) (side (decLt i 836))
+      go true = alias-free [] (remembering [] b) i (inr (omega arith)) ∙ remember-free [] b i (omega arith) (side (decLt i linePlace))
       go false = refl
 
   -- a line changes its own bytes and its length
-  pub line-free : (l : List ℕ) (size : ℕ) → 2 ≤ i → (i < 836) ⊎ (836 + length l ≤ i) → byteAt (lineBytes b l size) i ≡ byteAt b i
-  unfolding lineBytes checked
-  line-free l size h k = go (sound b) (leb (length l) 1024) (leb (length l + 40) size) (isUtf8 l)
+  pub line-free : (l : List ℕ) (size : ℕ) → 2 ≤ i → (i < linePlace) ⊎ (linePlace + length l ≤ i) → byteAt (lineBytes b l size) i ≡ byteAt b i
+  unfolding lineBytes
+  line-free l size h k = go (sound b)
     where
-      go : (w x y z : Bool) → byteAt (cond w (cond x (cond y (cond z (remembering l b) b) b) b) b) i ≡ byteAt b i
-      go true true true true = remember-free l b i h k
-      go true true true false = refl
-      go true true false z = refl
-      go true false y z = refl
-      go false x y z = refl
+      go : (w : Bool) → byteAt (cond w (bytesOn b l size) b) i ≡ byteAt b i
+      go true = checkFor-either (lineRoom l) l size (λ c. byteAt c i ≡ byteAt b i) (λ n. b) (remembering l b) (λ n. refl) (remember-free l b i h k)
+      go false = refl
 
   -- an alias changes the bytes of the aliases and their length
-  pub add-free : (w : List ℕ) (c : ℕ) → (i < 2) ⊎ (4 + length (rowsBytes (insert w c (sessionOf b .rows))) ≤ i) → byteAt (aliasBytes b w c) i ≡ byteAt b i
+  pub add-free : (w : List ℕ) (c : ℕ) → (i < 2) ⊎ (areaPlace + length (rowsBytes (insert w c (sessionOf b .rows))) ≤ i) → byteAt (aliasBytes b w c) i ≡ byteAt b i
   unfolding aliasBytes
   add-free w c k = go (eqb (aliasNo b w c) 0)
     where

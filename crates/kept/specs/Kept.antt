@@ -4,49 +4,49 @@
 use mathlib.Core.Path.{_≡_, refl, sym, _∙_}
 use mathlib.Core.Bool.{Bool, true, false, cond}
 use mathlib.Core.List.{List}
-use Prim.Native.Nat.{ℕ, _+_}
+use Prim.Native.Nat.{ℕ}
 use native.Mathlib.Omega.{arith}
 use lib.Dec.{eqb, leb}
 use lib.ListN.{length}
 use borrow.Author.Tests.{eqb-true, leb-true}
-use Rattle.utf8.specs.Utf8.{isUtf8}
-use Rattle.reading.specs.Alone.{checked}
+use Rattle.limits.specs.Limits.{lastCommand}
+use Rattle.reading.specs.Alone.{checkFor, byCheck, checkedFor, lineRoom}
+use Rattle.reading.specs.Checks.{checkFor-passed}
+use Rattle.reading.specs.declared.alone.Checked.{Checked}
 use Rattle.words.specs.Words.{Row}
 use Rattle.aliases.specs.Good.{isAlias}
 use Rattle.aliases.specs.Add.{insert}
-use Rattle.session.specs.Layout.{fresh, sessionOf, remembering, aliasing, written, sound}
+use Rattle.session.specs.Layout.{sessionSize, fresh, sessionOf, remembering, aliasing, written, sound}
 use Rattle.session.specs.SoundLaws.{ReadAs, fresh-sound, remember-sound, alias-sound}
 use Rattle.session.specs.Lent.{freshBytes, lineBytes, isFull, addNo, aliasNo, aliasBytes}
 
 -- a fresh session ---------------------------------------------------------------------------------------------------------------------------
 
 -- it stands in bytes of the right length, and in no others
-sound-length : (b : List ℕ) → eqb (length b) 1860 ≡ false → sound b ≡ false
+sound-length : (b : List ℕ) → eqb (length b) sessionSize ≡ false → sound b ≡ false
 unfolding sound
 sound-length b e = rw e
 
-pub fresh-kept : (b : List ℕ) → sound (freshBytes b) ≡ eqb (length b) 1860
+pub fresh-kept : (b : List ℕ) → sound (freshBytes b) ≡ eqb (length b) sessionSize
 unfolding freshBytes
-fresh-kept b = go (eqb (length b) 1860) refl
+fresh-kept b = go (eqb (length b) sessionSize) refl
   where
-    go : (x : Bool) → eqb (length b) 1860 ≡ x → sound (cond x (written fresh b) b) ≡ x
-    go true e = fresh-sound b (eqb-true (length b) 1860 e) .0
+    go : (x : Bool) → eqb (length b) sessionSize ≡ x → sound (cond x (written fresh b) b) ≡ x
+    go true e = fresh-sound b (eqb-true (length b) sessionSize e) .0
     go false e = sound-length b e
 
 -- a line ------------------------------------------------------------------------------------------------------------------------------------
 
 -- it leaves the aliases, and is remembered exactly where it passes checks 1, 12 and 2
 pub line-read : (b l : List ℕ) (size : ℕ) → sound b ≡ true →
-    ReadAs (lineBytes b l size) (record { rows = sessionOf b .rows; line = checked (λ n. sessionOf b .line) l size l })
-unfolding lineBytes checked
-line-read b l size h = rw h (go (leb (length l) 1024) (leb (length l + 40) size) (isUtf8 l) refl refl)
+    ReadAs (lineBytes b l size) (record { rows = sessionOf b .rows; line = checkedFor (lineRoom l) (λ n. sessionOf b .line) l size l })
+unfolding lineBytes checkedFor
+line-read b l size h = rw h (go (checkFor (lineRoom l) l size) refl)
   where
-    go : (x y z : Bool) → leb (length l) 1024 ≡ x → isUtf8 l ≡ z →
-        ReadAs (cond x (cond y (cond z (remembering l b) b) b) b) (record { rows = sessionOf b .rows; line = cond x (cond y (cond z l (sessionOf b .line)) (sessionOf b .line)) (sessionOf b .line) })
-    go true true true e f = remember-sound l b h (leb-true (length l) 1024 e) f
-    go true true false e f = (h, refl)
-    go true false z e f = (h, refl)
-    go false y z e f = (h, refl)
+    go : (k : Checked) → checkFor (lineRoom l) l size ≡ k →
+        ReadAs (byCheck (λ n. b) (remembering l b) k) (record { rows = sessionOf b .rows; line = byCheck (λ n. sessionOf b .line) l k })
+    go Checked.Good e = let p = checkFor-passed (lineRoom l) l size e in remember-sound l b h (p .0) (p .2)
+    go (Checked.Bad x) e = (h, refl)
 
 pub line-kept : (b l : List ℕ) (size : ℕ) → sound (lineBytes b l size) ≡ sound b
 unfolding lineBytes
@@ -76,9 +76,9 @@ alias-read b w c h = go (eqb (aliasNo b w c) 0) refl
 
     go : (x : Bool) → eqb (aliasNo b w c) 0 ≡ x → ReadAs (cond x (aliasing (insert w c rs) b) b) (record { rows = cond x (insert w c rs) rs; line = sessionOf b .line })
     go true e =
-        let q : aliasNo b w c ≡ cond (isAlias w) (cond (leb c 27) (cond (isFull rs w) 13 0) 9) 8 = rw h in
-        let t = alias-zero (isAlias w) (leb c 27) (isFull rs w) (sym q ∙ eqb-true (aliasNo b w c) 0 e) in
-        alias-sound w c b h (t .0) (leb-true c 27 (t .1)) (t .2)
+        let q : aliasNo b w c ≡ cond (isAlias w) (cond (leb c lastCommand) (cond (isFull rs w) 13 0) 9) 8 = rw h in
+        let t = alias-zero (isAlias w) (leb c lastCommand) (isFull rs w) (sym q ∙ eqb-true (aliasNo b w c) 0 e) in
+        alias-sound w c b h (t .0) (leb-true c lastCommand (t .1)) (t .2)
     go false e = (h, refl)
 
 pub alias-kept : (b w : List ℕ) (c : ℕ) → sound (aliasBytes b w c) ≡ sound b

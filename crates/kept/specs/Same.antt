@@ -8,6 +8,7 @@ use Prim.Native.Nat.{ℕ}
 use native.Mathlib.Omega.{arith}
 use lib.ListN.{length}
 use lib.Dec.{leb}
+use Rattle.limits.specs.Limits.{aliasLimit}
 use Rattle.words.specs.Words.{Row, same, lookupIn}
 use Rattle.words.specs.declared.words.Named.{Named}
 use Rattle.aliases.specs.RowsLaws.{lookup-here, lookup-past}
@@ -99,8 +100,8 @@ same-rows before (r ∷ rs) (t ∷ ts) g k h = go (orderOf (r .word) (t .word)) 
 pub same-session : (s u : Session) → WellFormed s → WellFormed u → ((w : List ℕ) → lookupIn (s .rows) w ≡ lookupIn (u .rows) w) → s .line ≡ u .line → s ≡ u
 unfolding goodTable
 same-session s u f g h l =
-    let a = both (goodRows [] (s .rows)) (leb (length (s .rows)) 32) (f .aliases) .0 in
-    let b = both (goodRows [] (u .rows)) (leb (length (u .rows)) 32) (g .aliases) .0 in
+    let a = both (goodRows [] (s .rows)) (leb (length (s .rows)) aliasLimit) (f .aliases) .0 in
+    let b = both (goodRows [] (u .rows)) (leb (length (u .rows)) aliasLimit) (g .aliases) .0 in
     ap (λ r. record { rows = r; line = s .line }) (same-rows [] (s .rows) (u .rows) a b h) ∙ ap (λ x. record { rows = u .rows; line = x }) l
 
 -- and their used bytes are the same

@@ -2,6 +2,8 @@
 // It prints a number that depends on the answer, so that no work is left out.
 use libc::STDIN_FILENO;
 use libc::STDOUT_FILENO;
+use limits::LINE;
+use limits::STORE;
 use reading::alone::FilenamesReply;
 use reading::alone::OptionsReply;
 use reading::alone::RangeReply;
@@ -9,6 +11,7 @@ use reading::alone::StringsReply;
 use reading::line::CommandRead;
 use scan::classes::classes;
 use session::bytes::sound;
+use session::layout::SESSION;
 use session::lent::fresh_in;
 use session::lent::line_in;
 use words::words::Named;
@@ -33,7 +36,7 @@ fn by_range(text: &[u8]) -> u64 {
 }
 
 fn by_filenames(text: &[u8]) -> u64 {
-    let mut store = [0u8; 1064];
+    let mut store = [0u8; STORE];
     match reading::alone::filenames(text, 0, &mut store) {
         FilenamesReply::Item(n, _) => n as u64,
         FilenamesReply::Beyond(n) => n as u64,
@@ -42,7 +45,7 @@ fn by_filenames(text: &[u8]) -> u64 {
 }
 
 fn by_strings(text: &[u8]) -> u64 {
-    let mut store = [0u8; 1064];
+    let mut store = [0u8; STORE];
     match reading::alone::strings(text, 0, &mut store) {
         StringsReply::Item(_, m) => m as u64,
         StringsReply::Beyond(n) => n as u64,
@@ -51,7 +54,7 @@ fn by_strings(text: &[u8]) -> u64 {
 }
 
 fn by_options(text: &[u8]) -> u64 {
-    let mut store = [0u8; 1064];
+    let mut store = [0u8; STORE];
     match reading::alone::options(text, 0, &mut store) {
         OptionsReply::Item(n, _) => n as u64,
         OptionsReply::Beyond(n) => n as u64,
@@ -67,20 +70,20 @@ fn by_lookup(text: &[u8]) -> u64 {
 }
 
 fn run_line(session: &mut [u8], text: &[u8]) -> u64 {
-    let mut store = [0u8; 1064];
+    let mut store = [0u8; STORE];
     let r = line_in(session, text, &mut store);
     r.refusal | (r.readings << 8) | (r.count << 32)
 }
 
 fn by_line(text: &[u8]) -> u64 {
-    let mut session = [0u8; 1860];
+    let mut session = [0u8; SESSION];
     fresh_in(&mut session);
     run_line(&mut session, text)
 }
 
 // The same line again, where it is the one that is remembered.
 fn by_line_again(text: &[u8]) -> u64 {
-    let mut session = [0u8; 1860];
+    let mut session = [0u8; SESSION];
     fresh_in(&mut session);
     run_line(&mut session, text);
     run_line(&mut session, text)
@@ -88,7 +91,7 @@ fn by_line_again(text: &[u8]) -> u64 {
 
 // The session's bytes are looked at once more.
 fn by_session(text: &[u8]) -> u64 {
-    let mut session = [0u8; 1860];
+    let mut session = [0u8; SESSION];
     fresh_in(&mut session);
     let n = run_line(&mut session, text);
     let table = classes();
@@ -113,7 +116,7 @@ fn measured(which: u8, text: &[u8]) -> u64 {
 }
 
 fn main() {
-    let mut buffer = [0u8; 1025];
+    let mut buffer = [0u8; LINE + 1];
     let n = io::read_full(STDIN_FILENO, &mut buffer);
     let which = buffer[0];
     if 1 <= n {

@@ -3,8 +3,10 @@ use super::compose::last_ones;
 use super::compose::put_composed;
 use super::order::order_of;
 use super::prefixes::Prefixes;
+use limits::STORE;
 use run::reply::LineReply;
 use scan::part::part;
+use session::layout::SESSION;
 use session::lent::fresh_in;
 use session::lent::line_in;
 use sheet::report::put_number;
@@ -21,14 +23,14 @@ pub struct Told {
 
 // Runs a line on a fresh session.
 fn answer(line: &[u8], store: &mut [u8]) -> LineReply {
-    let mut session = [0u8; 1860];
+    let mut session = [0u8; SESSION];
     fresh_in(&mut session);
     line_in(&mut session, line, store)
 }
 
 // Whether a line says what another did: the same refusal, and the same record or word.
 fn agrees(line: &[u8], reply: LineReply, written: &[u8]) -> bool {
-    let mut store = [0u8; 1065];
+    let mut store = [0u8; STORE + 1];
     let other = answer(line, &mut store);
     other.refusal == reply.refusal && check::same(part(&store, 0, other.count as usize), written)
 }
@@ -76,7 +78,7 @@ pub fn put_told(out: &mut [u8], at: usize, line: &[u8], p: Prefixes, number: u64
     let mut text = [0u8; 1088];
     let n = put_composed(&mut text, line, p, order, 31);
     let typed = part(&text, 0, n);
-    let mut store = [0u8; 1065];
+    let mut store = [0u8; STORE + 1];
     let reply = answer(typed, &mut store);
     let written = part(&store, 0, reply.count as usize);
     let agreed = agrees_with_last(line, p, order, reply, written);

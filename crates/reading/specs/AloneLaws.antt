@@ -6,6 +6,8 @@ use mathlib.Core.List.{List}
 use Prim.Native.Nat.{ℕ, _≤_}
 use native.Mathlib.Omega.{arith}
 use lib.ListN.{length}
+use Rattle.limits.specs.Refusals.{refusalNo}
+use Rattle.limits.specs.declared.refusal.Refusal.{Refusal}
 use Rattle.store.specs.Splice.{Room}
 use Rattle.lists.specs.Lists.{itemsOf, textAt}
 use Rattle.lists.specs.Listed.{listOf}
@@ -14,9 +16,8 @@ use Rattle.lists.specs.declared.list.Item.{Item}
 use Rattle.lists.specs.declared.list.Picked.{Picked}
 use Rattle.lists.specs.declared.list.Seen.{Seen}
 use Rattle.lists.specs.declared.list.ListRead.{ListRead}
-use Rattle.reading.specs.Alone.{Answer, checked, listAnswer, optionsAnswer, atFront, writtenBy, told, refusalNo}
+use Rattle.reading.specs.Alone.{Answer, checked, listAnswer, optionsAnswer, atFront, writtenBy, told}
 use Rattle.reading.specs.Checks.{checkOf, check-room, check-bad, said-refused, said-checked, byPick, byList, list-answer, byOptions, options-answer}
-use Rattle.reading.specs.declared.alone.Refusal.{Refusal}
 use Rattle.reading.specs.declared.alone.Checked.{Checked}
 
 -- an entry, where `check` answered r -----------------------------------------------------------------------------------------------------
@@ -43,11 +44,11 @@ pub item-room : (text store : List ℕ) (i : ℕ) → length text ≤ length sto
 item-room text store i h = record { fits = omega (arith, text-length text i) }
 
 module _ {I : Type 0} (f : Item → I) (s : List ℕ) (place : ℕ) (r : ListRead) (e : r ≡ listOf s place false) where
-  pub list-bad : r ≡ ListRead.Bad → listAnswer f place (itemsOf s) ≡ Answer.refused 3
+  pub list-bad : r ≡ ListRead.Bad → listAnswer f place (itemsOf s) ≡ Answer.refused (refusalNo Refusal.ParseFailed)
   list-bad q = list-answer f s place false ∙ ap (byList f) (sym e ∙ q)
 
   pub list-pick : (v : Seen) (p : Picked) → r ≡ ListRead.List v → v .picked ≡ p → listAnswer f place (itemsOf s) ≡ byPick f (v .count) p
   list-pick v p q k = list-answer f s place false ∙ ap (byList f) (sym e ∙ q) ∙ ap (byPick f (v .count)) k
 
-pub options-bad : (s : List ℕ) (place : ℕ) (r : ListRead) → r ≡ listOf s place true → r ≡ ListRead.Bad → optionsAnswer s place (itemsOf s) ≡ Answer.refused 3
+pub options-bad : (s : List ℕ) (place : ℕ) (r : ListRead) → r ≡ listOf s place true → r ≡ ListRead.Bad → optionsAnswer s place (itemsOf s) ≡ Answer.refused (refusalNo Refusal.ParseFailed)
 options-bad s place r e q = options-answer s place ∙ ap (byOptions s) (sym e ∙ q)

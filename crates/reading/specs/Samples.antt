@@ -15,7 +15,7 @@ use Rattle.lists.specs.Text.{quotedEscape, plainEscape, escapeOf, own, stopAt, 
 use Rattle.lists.specs.Lists.{itemOf, itemAt, textAt, also, itemsFrom, itemsAt, itemsOf, Filename, lone, filenameOf, Option, keyOf, afterKey, plusPlus, flagOf, optionOf, isEmpty, keyless, anyKeyless}
 use Rattle.reading.specs.Line.{skipByte, wordAt, restAt, afterWord, afterRange, startOf, readingOf}
 use Rattle.reading.specs.Told.{Direction, directionTold, Atom, atomTold, ToldEnd, endTold, Separator, separatorTold, ToldRange, specTold}
-use Rattle.reading.specs.Alone.{Answer, Ranged, checked, itemAtPlace, listAnswer, filenamesAlone, stringsAlone, optionsAnswer, optionsAlone, rangeAnswer, rangeAlone}
+use Rattle.reading.specs.Alone.{Answer, Ranged, checkFor, checkedFor, itemAtPlace, listAnswer, filenamesAlone, stringsAlone, optionsAnswer, optionsAlone, rangeAnswer, rangeAlone}
 use Rattle.reading.specs.declared.line.CommandRead.{CommandRead}
 
 -- readings: the word, the bang and the argument as bytes ---------------------------------------------------------------------------
@@ -87,7 +87,7 @@ numbers = (refl, refl, refl, refl, refl, refl, refl, refl)
 -- ranges ----------------------------------------------------------------------------------------------------------------------------
 
 ranged : String → Ranged
-unfolding isDigit isMark runFrom runAt valueFrom digitsFrom digitsAt isSign escapedAtom markAtom signAtom numberOr atomAt offsetsFrom offsetsAt withOffsets afterAtom endingAt double afterFirst rangeAt wholeOf wholeRange directionTold atomTold endTold separatorTold specTold rangeAnswer rangeAlone isUtf8 utf8At utf8From utf8Step followers lowest highest
+unfolding isDigit isMark runFrom runAt valueFrom digitsFrom digitsAt isSign escapedAtom markAtom signAtom numberOr atomAt offsetsFrom offsetsAt withOffsets afterAtom endingAt double afterFirst rangeAt wholeOf wholeRange directionTold atomTold endTold separatorTold specTold rangeAnswer checkFor checkedFor rangeAlone isUtf8 utf8At utf8From utf8Step followers lowest highest
 ranged t = rangeAlone (ascii t)
 
 abbrev end : Atom → ℕ → ℕ → ToldEnd
@@ -112,7 +112,7 @@ ranges = (refl, refl, refl, refl, refl, refl, refl, refl, refl, refl, refl, refl
 -- lists, with a store that is long enough ----------------------------------------------------------------------------------------------
 
 string : String → ℕ → Answer (List ℕ)
-unfolding isSpace isPlain isQuoted runFrom runAt quotedEscape plainEscape escapeOf own stopAt textEndFrom textEndAt bytesFrom bytesAt itemOf itemAt textAt also itemsFrom itemsAt itemsOf checked itemAtPlace listAnswer stringsAlone isUtf8 utf8At utf8From utf8Step followers lowest highest
+unfolding isSpace isPlain isQuoted runFrom runAt quotedEscape plainEscape escapeOf own stopAt textEndFrom textEndAt bytesFrom bytesAt itemOf itemAt textAt also itemsFrom itemsAt itemsOf checkFor checkedFor itemAtPlace listAnswer stringsAlone isUtf8 utf8At utf8From utf8Step followers lowest highest
 string t place = stringsAlone (ascii t) place 1064
 
 strings : (string "a\\ b \"c\\td\" " 0 ≡ Answer.item 2 (ascii "a b"))
@@ -135,7 +135,7 @@ unfolding string
 strings = (refl, refl, refl, refl, refl, refl, refl, refl, refl, refl, refl, refl, refl, refl, refl, refl)
 
 filename : String → ℕ → Answer Filename
-unfolding isSpace isPlain isQuoted runFrom runAt quotedEscape plainEscape escapeOf own stopAt textEndFrom textEndAt bytesFrom bytesAt itemOf itemAt textAt also itemsFrom itemsAt itemsOf lone filenameOf checked itemAtPlace listAnswer filenamesAlone isUtf8 utf8At utf8From utf8Step followers lowest highest
+unfolding isSpace isPlain isQuoted runFrom runAt quotedEscape plainEscape escapeOf own stopAt textEndFrom textEndAt bytesFrom bytesAt itemOf itemAt textAt also itemsFrom itemsAt itemsOf lone filenameOf checkFor checkedFor itemAtPlace listAnswer filenamesAlone isUtf8 utf8At utf8From utf8Step followers lowest highest
 filename t place = filenamesAlone (ascii t) place 1064
 
 filenames : (filename "# %\t\\# \"#\" #a" 0 ≡ Answer.item 5 Filename.alternate)
@@ -148,7 +148,7 @@ unfolding filename
 filenames = (refl, refl, refl, refl, refl, refl)
 
 option : String → ℕ → Answer Option
-unfolding isSpace isPlain isQuoted runFrom runAt quotedEscape plainEscape escapeOf own stopAt textEndFrom textEndAt bytesFrom bytesAt itemOf itemAt textAt also itemsFrom itemsAt itemsOf keyOf afterKey plusPlus flagOf optionOf isEmpty keyless anyKeyless checked itemAtPlace optionsAnswer optionsAlone isUtf8 utf8At utf8From utf8Step followers lowest highest
+unfolding isSpace isPlain isQuoted runFrom runAt quotedEscape plainEscape escapeOf own stopAt textEndFrom textEndAt bytesFrom bytesAt itemOf itemAt textAt also itemsFrom itemsAt itemsOf keyOf afterKey plusPlus flagOf optionOf isEmpty keyless anyKeyless checkFor checkedFor itemAtPlace optionsAnswer optionsAlone isUtf8 utf8At utf8From utf8Step followers lowest highest
 option t place = optionsAlone (ascii t) place 1064
 
 options : (option "x ++k ++k= ++k=v=w +++ \"++k=v w\"" 0 ≡ Answer.item 6 (Option.positional (ascii "x")))
@@ -166,7 +166,7 @@ options = (refl, refl, refl, refl, refl, refl, refl, refl, refl)
 -- the checks 1, 12 and 2, in this order: so many bytes b, and a store of so many ---------------------------------------------------------
 
 many : ℕ → ℕ → ℕ → Answer (List ℕ)
-unfolding isSpace isPlain isQuoted runFrom runAt quotedEscape plainEscape escapeOf own stopAt textEndFrom textEndAt bytesFrom bytesAt itemOf itemAt textAt also itemsFrom itemsAt itemsOf checked itemAtPlace listAnswer stringsAlone isUtf8 utf8At utf8From utf8Step followers lowest highest
+unfolding isSpace isPlain isQuoted runFrom runAt quotedEscape plainEscape escapeOf own stopAt textEndFrom textEndAt bytesFrom bytesAt itemOf itemAt textAt also itemsFrom itemsAt itemsOf checkFor checkedFor itemAtPlace listAnswer stringsAlone isUtf8 utf8At utf8From utf8Step followers lowest highest
 many n b size = stringsAlone (replicate n b) 1 size
 
 checks : (many 1024 0x61 1064 ≡ Answer.beyond 1)

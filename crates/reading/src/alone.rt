@@ -1,4 +1,7 @@
 // The argument readings called alone: filenames, strings, options and range of CommandArgument in parse.rs, with their refusals.
+use limits::LINE;
+use limits::SPARE;
+use limits::refusal::Refusal;
 use lists::list::Item;
 use lists::list::ListRead;
 use lists::list::Picked;
@@ -21,19 +24,9 @@ ghost use Rattle.store.specs.Splice.{Room};
 ghost use Rattle.lists.specs.Lists.{textAt, itemsOf, filenameOf};
 ghost use Rattle.lists.specs.Listed.{optionBytes};
 ghost use Rattle.reading.specs.Told.{filenameTold};
-ghost use Rattle.reading.specs.Alone.{listAnswer, optionsAnswer, rangeAnswer, filenamesAlone, stringsAlone, optionsAlone, rangeAlone};
+ghost use Rattle.reading.specs.Alone.{checkFor, lineRoom, listAnswer, optionsAnswer, rangeAnswer, filenamesAlone, stringsAlone, optionsAlone, rangeAlone};
 ghost use Rattle.reading.specs.Alone.{filenamesTold, stringsTold, optionsTold, rangeTold, told, filenameSeen, optionCounts, filenameBytes, writtenBy, atFront};
 ghost use Rattle.reading.specs.Checks.{checkOf};
-
-// A refusal; its number is in specs/Alone.antt.
-pub enum Refusal {
-    LineTooLong,
-    NotUtf8,
-    ParseFailed,
-    NumberTooLarge,
-    InvalidArgument,
-    StoreTooShort,
-}
 
 // A file name: a lone `#`, a lone `%`, or a name of so many bytes.
 pub enum FilenameType {
@@ -72,21 +65,42 @@ pub enum Checked {
     Bad(Refusal),
 }
 
-// The checks 1, 12 and 2, in this order, for a text and a store of `size` bytes.
-pub fn check(text: &[u8], size: usize) -> Checked
-    ensures { λ r. ⌜ r ≡ checkOf (now (text .entry)) size ⌝ }
+// The checks 1, 12 and 2, in this order, for a text that asks for `need` bytes of a store of `size`.
+fn check_for(text: &[u8], need: usize, size: usize) -> Checked
+    ensures { λ r. ⌜ r ≡ checkFor need (now (text .entry)) size ⌝ }
 {
-    let n = text.len();
-    if 1024 < n {
+    if LINE < text.len() {
         return Checked::Bad(Refusal::LineTooLong);
     }
-    if size < n + 40 {
+    if size < need {
         return Checked::Bad(Refusal::StoreTooShort);
     }
     if is_utf8(text) {
         return Checked::Good;
     }
     Checked::Bad(Refusal::NotUtf8)
+}
+
+// The checks of a list.
+fn check(text: &[u8], size: usize) -> Checked
+    ensures { λ r. ⌜ r ≡ checkOf (now (text .entry)) size ⌝ }
+{
+    let n = text.len();
+    if LINE < n {
+        return Checked::Bad(Refusal::LineTooLong);
+    }
+    check_for(text, n + SPARE, size)
+}
+
+// The checks of a line.
+pub fn check_line(line: &[u8], size: usize) -> Checked
+    ensures { λ r. ⌜ r ≡ checkFor (lineRoom (now (line .entry))) (now (line .entry)) size ⌝ }
+{
+    let n = line.len();
+    if LINE < n {
+        return Checked::Bad(Refusal::LineTooLong);
+    }
+    check_for(line, n + SPARE, size)
 }
 
 // The file name that an item is: a name goes to the front of the store.
@@ -218,12 +232,11 @@ fn range_reply(w: WholeRead) -> RangeReply
 pub fn range(text: &[u8]) -> RangeReply
     ensures { λ r. ⌜ rangeTold r ≡ rangeAlone (now (text .entry)) ⌝ }
 {
-    if 1024 < text.len() {
-        return RangeReply::Refused(Refusal::LineTooLong);
+    match check_for(text, 0, 0) {
+        Checked::Good => {
+            let classes = classes();
+            range_reply(parse_whole_range(text, &classes))
+        }
+        Checked::Bad(x) => RangeReply::Refused(x),
     }
-    if is_utf8(text) {
-        let classes = classes();
-        return range_reply(parse_whole_range(text, &classes));
-    }
-    RangeReply::Refused(Refusal::NotUtf8)
 }

@@ -4,25 +4,28 @@ use entries::pagyolint_alias;
 use entries::pagyolint_fresh;
 use entries::pagyolint_line;
 use entries::pagyolint_remembered;
+use limits::LINE;
+use limits::STORE;
 use run::reply::LineReply;
 use scan::part::byte_at;
 use scan::part::part;
+use session::layout::SESSION;
 
 // The session's bytes after a vector, and where its answer ends.
 pub struct Answered {
-    pub session: [u8; 1860],
+    pub session: [u8; SESSION],
     pub end: usize,
 }
 
 // A fresh session's bytes.
-pub fn fresh() -> [u8; 1860] {
-    let mut session = [0u8; 1860];
+pub fn fresh() -> [u8; SESSION] {
+    let mut session = [0u8; SESSION];
     pagyolint_fresh(&mut session);
     session
 }
 
 // The command's number in one byte, and the word.
-fn answer_alias(before: [u8; 1860], text: &[u8], out: &mut [u8]) -> Answered {
+fn answer_alias(before: [u8; SESSION], text: &[u8], out: &mut [u8]) -> Answered {
     let mut session = before;
     let refusal = pagyolint_alias(
         &mut session,
@@ -37,15 +40,15 @@ fn answer_alias(before: [u8; 1860], text: &[u8], out: &mut [u8]) -> Answered {
 
 // The line that is remembered, as a name.
 fn put_remembered(session: &[u8], out: &mut [u8], n: usize) -> usize {
-    let mut store = [0u8; 1024];
+    let mut store = [0u8; LINE];
     let reply = pagyolint_remembered(session, &mut store);
     vectors::put_name(out, n, part(&store, 0, reply.count as usize))
 }
 
 // Refusal, readings, what was written to the store, and the line that is then remembered.
-fn answer_line(before: [u8; 1860], text: &[u8], out: &mut [u8]) -> Answered {
+fn answer_line(before: [u8; SESSION], text: &[u8], out: &mut [u8]) -> Answered {
     let mut session = before;
-    let mut store = [0u8; 1064];
+    let mut store = [0u8; STORE];
     let reply = pagyolint_line(&mut session, text, &mut store);
     let a = vectors::put_number(out, 0, reply.refusal);
     let b = vectors::put_number(out, a, reply.readings);
@@ -82,7 +85,7 @@ fn pair(text: &[u8]) -> usize {
 
 // The store's size in two bytes and the line: refusal, readings, what was written, how many bytes of the store were not touched, and
 // the line that is then remembered.
-fn answer_sized(before: [u8; 1860], text: &[u8], out: &mut [u8]) -> Answered {
+fn answer_sized(before: [u8; SESSION], text: &[u8], out: &mut [u8]) -> Answered {
     let mut session = before;
     let mut store = [0xAAu8; 2048];
     let reply = line_on(
@@ -108,10 +111,10 @@ fn set_byte(b: &mut [u8], at: usize, value: u8) {
 }
 
 // A place in the session's bytes and another byte for it: refused, or the line that this session remembers.
-fn answer_damaged(before: [u8; 1860], text: &[u8], out: &mut [u8]) -> Answered {
+fn answer_damaged(before: [u8; SESSION], text: &[u8], out: &mut [u8]) -> Answered {
     let mut session = before;
     set_byte(&mut session, pair(text), byte_at(text, 2));
-    let mut store = [0u8; 1024];
+    let mut store = [0u8; LINE];
     let reply = pagyolint_remembered(&session, &mut store);
     let n = vectors::put_number(out, 0, reply.refusal);
     if reply.refusal != 0 {
@@ -126,7 +129,7 @@ fn answer_damaged(before: [u8; 1860], text: &[u8], out: &mut [u8]) -> Answered {
     }
 }
 
-pub fn answer(session: [u8; 1860], op: u8, text: &[u8], out: &mut [u8]) -> Answered {
+pub fn answer(session: [u8; SESSION], op: u8, text: &[u8], out: &mut [u8]) -> Answered {
     match op {
         0 => Answered {
             session: fresh(),

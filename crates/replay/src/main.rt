@@ -6,16 +6,17 @@ mod vectors;
 use libc::STDIN_FILENO;
 use lines::Answered;
 use scan::part::part;
+use session::layout::SESSION;
 use vectors::Frame;
 use vectors::Tally;
 
 // How far the run is, and the bytes of the session that goes on from vector to vector.
 struct Replay {
     tally: Tally,
-    session: [u8; 1860],
+    session: [u8; SESSION],
 }
 
-fn answer(session: [u8; 1860], op: u8, text: &[u8], out: &mut [u8]) -> Answered {
+fn answer(session: [u8; SESSION], op: u8, text: &[u8], out: &mut [u8]) -> Answered {
     if op < 3 || 7 < op {
         return lines::answer(session, op, text, out);
     }

@@ -1,5 +1,9 @@
 // What the public functions of `reading` answer to ranges, lists and readings (ops 3 to 7), as the oracle writes it.
 use super::vectors;
+use limits::LINE;
+use limits::STORE;
+use limits::refusal::Refusal;
+use limits::refusal::number;
 use lists::option::OptionType;
 use ranges::range::MoveDir1D;
 use ranges::range::RangeEnding;
@@ -11,26 +15,13 @@ use reading::alone::FilenameType;
 use reading::alone::FilenamesReply;
 use reading::alone::OptionsReply;
 use reading::alone::RangeReply;
-use reading::alone::Refusal;
 use reading::alone::StringsReply;
 use reading::line::CommandDescription;
 use reading::line::CommandRead;
 use scan::part::part;
 
-// The number that document 01 gives a refusal.
-fn refusal_number(x: Refusal) -> u64 {
-    match x {
-        Refusal::LineTooLong => 1,
-        Refusal::NotUtf8 => 2,
-        Refusal::ParseFailed => 3,
-        Refusal::NumberTooLarge => 4,
-        Refusal::InvalidArgument => 5,
-        Refusal::StoreTooShort => 12,
-    }
-}
-
 fn put_refusal(out: &mut [u8], x: Refusal) -> usize {
-    vectors::put_number(out, 0, refusal_number(x))
+    vectors::put_number(out, 0, number(x))
 }
 
 fn search(d: MoveDir1D) -> u64 {
@@ -227,7 +218,7 @@ fn put_head(out: &mut [u8], n: usize, place: usize, count: usize) -> usize {
 }
 
 fn filename_turn(text: &[u8], place: usize, out: &mut [u8], n: usize) -> ItemTurn {
-    let mut store = [0u8; 1064];
+    let mut store = [0u8; STORE];
     match reading::alone::filenames(text, place, &mut store) {
         FilenamesReply::Refused(x) => ItemTurn {
             n: put_refusal(out, x),
@@ -248,7 +239,7 @@ fn filename_turn(text: &[u8], place: usize, out: &mut [u8], n: usize) -> ItemTur
 }
 
 fn string_turn(text: &[u8], place: usize, out: &mut [u8], n: usize) -> ItemTurn {
-    let mut store = [0u8; 1064];
+    let mut store = [0u8; STORE];
     match reading::alone::strings(text, place, &mut store) {
         StringsReply::Refused(x) => ItemTurn {
             n: put_refusal(out, x),
@@ -287,7 +278,7 @@ fn put_option(out: &mut [u8], n: usize, o: OptionType, store: &[u8]) -> usize {
 }
 
 fn option_turn(text: &[u8], place: usize, out: &mut [u8], n: usize) -> ItemTurn {
-    let mut store = [0u8; 1064];
+    let mut store = [0u8; STORE];
     match reading::alone::options(text, place, &mut store) {
         OptionsReply::Refused(x) => ItemTurn {
             n: put_refusal(out, x),
@@ -321,7 +312,7 @@ fn list_turn(op: u8, text: &[u8], place: usize, out: &mut [u8], n: usize) -> Ite
 fn answer_list(op: u8, text: &[u8], out: &mut [u8]) -> usize {
     let mut t = ItemTurn { n: 0, more: true };
     let mut place: usize = 0;
-    while place < 1025 && t.more {
+    while place <= LINE && t.more {
         t = list_turn(op, text, place, out, t.n);
         place += 1;
     }

@@ -4,13 +4,13 @@ use actions::action::Axis;
 use actions::action::SizeChange;
 use actions::action::WindowAction;
 use context::context::CommandContext;
-use focus::focus::CommandError;
 use focus::focus::Focused;
 use focus::focus::window_range_target;
 use focus::sum::Sum;
 use focus::sum::moved;
 use focus::sum::sum_mods;
 use handlers::done::Done;
+use limits::refusal::Refusal;
 use ranges::range::MoveDir1D;
 use ranges::range::RangeEnding;
 use ranges::range::RangeEndingType;
@@ -26,7 +26,7 @@ ghost use Rattle.resize.specs.Resize.{exactBy, stepBy, stepped as steppe
 // How a window changes, or a refusal.
 pub enum Resized {
     By(SizeChange),
-    Refused(CommandError),
+    Refused(Refusal),
 }
 
 fn exact_by(n: u64, s: Sum) -> Resized
@@ -34,7 +34,7 @@ fn exact_by(n: u64, s: Sum) -> Resized
 {
     match s {
         Sum::Is(d, k) => Resized::By(SizeChange::Exact(moved(n, d, k))),
-        Sum::Over => Resized::Refused(CommandError::SumTooLarge),
+        Sum::Over => Resized::Refused(Refusal::SumTooLarge),
     }
 }
 
@@ -52,7 +52,7 @@ fn step_by(s: Sum) -> Resized
 {
     match s {
         Sum::Is(d, k) => Resized::By(stepped(d, k)),
-        Sum::Over => Resized::Refused(CommandError::SumTooLarge),
+        Sum::Over => Resized::Refused(Refusal::SumTooLarge),
     }
 }
 
@@ -65,12 +65,12 @@ fn end_change(a: &[u8], e: RangeEnding) -> Resized
     match t {
         RangeEndingType::Absolute(n) => exact_by(n, sum_mods(a, from)),
         RangeEndingType::Unspecified => step_by(sum_mods(a, from)),
-        RangeEndingType::Current => Resized::Refused(CommandError::InvalidRange),
-        RangeEndingType::Last => Resized::Refused(CommandError::InvalidRange),
-        RangeEndingType::All => Resized::Refused(CommandError::InvalidRange),
-        RangeEndingType::Search(_) => Resized::Refused(CommandError::InvalidRange),
-        RangeEndingType::SubPatSearch => Resized::Refused(CommandError::InvalidRange),
-        RangeEndingType::Mark(_) => Resized::Refused(CommandError::InvalidRange),
+        RangeEndingType::Current => Resized::Refused(Refusal::InvalidRange),
+        RangeEndingType::Last => Resized::Refused(Refusal::InvalidRange),
+        RangeEndingType::All => Resized::Refused(Refusal::InvalidRange),
+        RangeEndingType::Search(_) => Resized::Refused(Refusal::InvalidRange),
+        RangeEndingType::SubPatSearch => Resized::Refused(Refusal::InvalidRange),
+        RangeEndingType::Mark(_) => Resized::Refused(Refusal::InvalidRange),
     }
 }
 
@@ -79,7 +79,7 @@ fn range_change(a: &[u8], g: RangeSpec) -> Resized
 {
     match g {
         RangeSpec::Single(e) => end_change(a, e),
-        RangeSpec::Double(_, _, _) => Resized::Refused(CommandError::InvalidRange),
+        RangeSpec::Double(_, _, _) => Resized::Refused(Refusal::InvalidRange),
     }
 }
 
@@ -88,8 +88,8 @@ fn change_by(a: &[u8], w: WholeRead) -> Resized
 {
     match w {
         WholeRead::Range(g) => range_change(a, g),
-        WholeRead::Bad => Resized::Refused(CommandError::ParseFailed),
-        WholeRead::TooLarge => Resized::Refused(CommandError::NumberTooLarge),
+        WholeRead::Bad => Resized::Refused(Refusal::ParseFailed),
+        WholeRead::TooLarge => Resized::Refused(Refusal::NumberTooLarge),
     }
 }
 
@@ -99,7 +99,7 @@ fn size_change(a: &[u8], classes: &[u8; 256]) -> Resized
     ensures { λ r. ⌜ r ≡ changeOf (now (a .entry)) ⌝ }
 {
     if a.len() == 0 {
-        return Resized::Refused(CommandError::InvalidArgument);
+        return Resized::Refused(Refusal::InvalidArgument);
     }
     change_by(a, parse_whole_range(a, classes))
 }

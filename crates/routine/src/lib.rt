@@ -2,10 +2,9 @@
 use run::reply::LineReply;
 use session::value::Session;
 ghost use mathlib.Core.Path.{_≡_};
-ghost use mathlib.Core.List.{replicate};
-ghost use lib.ListN.{length};
+ghost use lib.ListN.{length, replicate};
 ghost use Rattle.commands.specs.Line.{storeAfter};
-ghost use Rattle.session.specs.Layout.{fresh as freshOne, written};
+ghost use Rattle.session.specs.Layout.{sessionSize, fresh as freshOne, written};
 ghost use Rattle.run.specs.Reply.{reply};
 ghost use Rattle.session.specs.Lent.{lineAnswer, lineBytes, aliasNo, aliasBytes};
 
@@ -32,8 +31,8 @@ pub fn add_alias(session: &mut Session, word: &[u8], command: u64) -> u64
 
 // A line of a fresh session, which is made here and lent.
 pub fn once(line: &[u8], store: &mut [u8]) -> LineReply
-    ensures answer { λ r. ⌜ r ≡ reply (lineAnswer (written freshOne (replicate 1860 0)) (now (line .entry)) (length (now (store .entry)))) ⌝ }
-    ensures store { λ r. ⌜ now (store .exit) ≡ storeAfter (lineAnswer (written freshOne (replicate 1860 0)) (now (line .entry)) (length (now (store .entry))) .out) (now (store .entry)) ⌝ }
+    ensures answer { λ r. ⌜ r ≡ reply (lineAnswer (written freshOne (replicate sessionSize 0)) (now (line .entry)) (length (now (store .entry)))) ⌝ }
+    ensures store { λ r. ⌜ now (store .exit) ≡ storeAfter (lineAnswer (written freshOne (replicate sessionSize 0)) (now (line .entry)) (length (now (store .entry))) .out) (now (store .entry)) ⌝ }
 {
     let mut session = session::value::fresh();
     input_cmd(&mut session, line, store)

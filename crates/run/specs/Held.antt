@@ -6,6 +6,8 @@ use mathlib.Core.List.{List}
 use Prim.Native.Nat.{ℕ, _+_, _-_, _≤_, _<_}
 use native.Mathlib.Omega.{arith}
 use lib.ListN.{length}
+use Rattle.limits.specs.Refusals.{refusalNo}
+use Rattle.limits.specs.declared.refusal.Refusal.{Refusal}
 use Rattle.scan.specs.Bytes.{isSpace, isText}
 use Rattle.scan.specs.Scan.{runAt, partOf}
 use Rattle.scan.specs.RunLaws.{runAt-within}
@@ -15,8 +17,6 @@ use Rattle.reading.specs.declared.line.CommandDescription.{CommandDescription}
 use Rattle.actions.specs.Record.{paperOf}
 use Rattle.context.specs.Context.{fresh}
 use Rattle.context.specs.declared.context.CommandContext.{CommandContext}
-use Rattle.focus.specs.Focus.{errorNo}
-use Rattle.focus.specs.declared.focus.CommandError.{CommandError}
 use Rattle.handlers.specs.declared.done.Done.{Done}
 use Rattle.words.specs.Words.{Row}
 use Rattle.commands.specs.Handle.{handleOf}
@@ -55,7 +55,7 @@ module _ (table : List Row) (line : List ℕ) (x : CommandContext) (n from to st
   unfolding step
   held-empty q = ends table (lineFrom table fresh line) n x (partOf line from to) Next.Empty _ (h .same) q refl
 
-  pub held-refused : (e : CommandError) → decide table (partOf line from to) ≡ Next.Refused e → after (n + 1) (Out.refused (errorNo e)) ≡ lineFrom table fresh line
+  pub held-refused : (e : Refusal) → decide table (partOf line from to) ≡ Next.Refused e → after (n + 1) (Out.refused (refusalNo e)) ≡ lineFrom table fresh line
   unfolding step
   held-refused e q = ends table (lineFrom table fresh line) n x (partOf line from to) (Next.Refused e) _ (h .same) q refl
 

@@ -3,9 +3,9 @@
 use mathlib.Core.List.{List}
 use Prim.Native.Nat.{ℕ}
 use lib.ListN.{length}
+use Rattle.limits.specs.Refusals.{refusalNo}
 use Rattle.scan.specs.Scan.{partOf}
 use Rattle.actions.specs.Record.{paperOf}
-use Rattle.focus.specs.Focus.{errorNo}
 use Rattle.handlers.specs.declared.done.Done.{Done}
 use Rattle.commands.specs.Run.{Out, outNo, outBytes, Answer}
 use Rattle.run.specs.declared.reply.LineReply.{LineReply}
@@ -21,4 +21,4 @@ after n o = record { out = o; readings = n }
 -- with a handler's answer, its argument from a up to e of the line l
 unfoldable pub doneAt : List ℕ → Done → ℕ → ℕ → Out
 doneAt l (Done.Act x) a e = Out.act (paperOf (partOf l a e) x)
-doneAt l (Done.Refused x) a e = Out.refused (errorNo x)
+doneAt l (Done.Refused x) a e = Out.refused (refusalNo x)

@@ -1,16 +1,18 @@
 // What a line answers in numbers, and what it writes at the front of the store: a function for each way in which a line ends.
 use actions::record::put_action;
 use actions::record::put_nothing;
-use focus::focus::CommandError;
 use handlers::done::Done;
+use limits::refusal::Refusal;
+use limits::refusal::number;
 use scan::part::part;
 use store::put_name;
 ghost use mathlib.Core.Path.{_≡_};
 ghost use Prim.Native.Nat.{_+_, _≤_};
 ghost use lib.ListN.{length};
+ghost use Rattle.limits.specs.Limits.{spare};
+ghost use Rattle.limits.specs.Refusals.{refusalNo};
 ghost use Rattle.scan.specs.Bytes.{Classes};
 ghost use Rattle.scan.specs.Scan.{partOf};
-ghost use Rattle.focus.specs.Focus.{errorNo};
 ghost use Rattle.commands.specs.Run.{Out};
 ghost use Rattle.commands.specs.Line.{storeAfter};
 ghost use Rattle.run.specs.Reply.{reply, after, doneAt};
@@ -21,19 +23,6 @@ pub struct LineReply {
     pub refusal: u64,
     pub readings: u64,
     pub count: u64,
-}
-
-fn error_number(e: CommandError) -> u64
-    ensures { λ r. ⌜ r ≡ errorNo e ⌝ }
-{
-    match e {
-        CommandError::ParseFailed => 3,
-        CommandError::NumberTooLarge => 4,
-        CommandError::InvalidArgument => 5,
-        CommandError::InvalidRange => 6,
-        CommandError::SumTooLarge => 7,
-        CommandError::Unimplemented => 11,
-    }
 }
 
 // The line gives nothing.
@@ -52,11 +41,11 @@ pub fn end_nothing(readings: u64, store: &mut [u8]) -> LineReply
 }
 
 // The line is refused; nothing is written.
-pub fn end_refused(e: CommandError, readings: u64) -> LineReply
-    ensures { λ r. ⌜ r ≡ reply (after readings (Out.refused (errorNo e))) ⌝ }
+pub fn end_refused(e: Refusal, readings: u64) -> LineReply
+    ensures { λ r. ⌜ r ≡ reply (after readings (Out.refused (refusalNo e))) ⌝ }
 {
     LineReply {
-        refusal: error_number(e),
+        refusal: number(e),
         readings: readings,
         count: 0,
     }
@@ -64,14 +53,14 @@ pub fn end_refused(e: CommandError, readings: u64) -> LineReply
 
 // The word from `a` up to `e` is not in the table: it is written as a name.
 pub fn end_unknown(line: &[u8], a: usize, e: usize, readings: u64, store: &mut [u8]) -> LineReply
-    requires { ⌜ length (now line) + 40 ≤ length (now store) ⌝ }
+    requires { ⌜ length (now line) + spare ≤ length (now store) ⌝ }
     ensures answer { λ r. ⌜ r ≡ reply (after readings (Out.unknown (partOf (now (line .entry)) a e))) ⌝ }
     ensures store { λ r. ⌜ now (store .exit) ≡ storeAfter (Out.unknown (partOf (now (line .entry)) a e)) (now (store .entry)) ⌝ }
     ensures size { λ r. ⌜ length (now (store .exit)) ≡ length (now (store .entry)) ⌝ }
 {
     let count = put_name(store, 0, part(line, a, e));
     LineReply {
-        refusal: 10,
+        refusal: number(Refusal::UnknownWord),
         readings: readings,
         count: count as u64,
     }
@@ -88,7 +77,7 @@ pub fn end_done(
     classes: &[u8; 256],
 ) -> LineReply
     requires { ⌜ Classes (now classes) ⌝ }
-    requires { ⌜ length (now line) + 40 ≤ length (now store) ⌝ }
+    requires { ⌜ length (now line) + spare ≤ length (now store) ⌝ }
     ensures answer { λ r. ⌜ r ≡ reply (after readings (doneAt (now (line .entry)) x a e)) ⌝ }
     ensures store { λ r. ⌜ now (store .exit) ≡ storeAfter (doneAt (now (line .entry)) x a e) (now (store .entry)) ⌝ }
     ensures size { λ r. ⌜ length (now (store .exit)) ≡ length (now (store .entry)) ⌝ }

@@ -12,19 +12,19 @@ use commands::next::Next;
 use commands::next::by_name;
 use commands::next::changed;
 use context::context::CommandContext;
-use focus::focus::CommandError;
+use limits::refusal::Refusal;
 use reading::line::CommandRead;
 use reading::line::description_again;
 use reading::line::parse_cmd_descr;
 use scan::part::part;
 ghost use mathlib.Core.Path.{_≡_};
-ghost use mathlib.Core.List.{_++_};
 ghost use Prim.Native.Nat.{_+_, _≤_};
 ghost use lib.ListN.{length};
+ghost use Rattle.limits.specs.Limits.{spare};
 ghost use Rattle.scan.specs.Bytes.{Classes, isText};
 ghost use Rattle.scan.specs.Scan.{runAt};
 ghost use Rattle.context.specs.Context.{fresh as freshOne};
-ghost use Rattle.words.specs.Words.{shipped};
+ghost use Rattle.words.specs.Words.{tableWith};
 ghost use Rattle.aliases.specs.Rows.{rowsOf};
 ghost use Rattle.commands.specs.Run.{decide as decideOf, lineFrom};
 ghost use Rattle.commands.specs.Line.{storeAfter};
@@ -34,7 +34,7 @@ ghost use Rattle.run.specs.Reply.{reply};
 fn decide(s: &[u8], stop: usize, added: &[u8], classes: &[u8; 256]) -> Next
     requires { ⌜ stop ≡ runAt isText (now s) 0 ⌝ }
     requires { ⌜ Classes (now classes) ⌝ }
-    ensures { λ r. ⌜ r ≡ decideOf (rowsOf (now (added .entry)) ++ shipped) (now (s .entry)) ⌝ }
+    ensures { λ r. ⌜ r ≡ decideOf (tableWith (rowsOf (now (added .entry)))) (now (s .entry)) ⌝ }
 {
     match parse_cmd_descr(s, stop, classes) {
         CommandRead::Command(d) => {
@@ -45,17 +45,17 @@ fn decide(s: &[u8], stop: usize, added: &[u8], classes: &[u8; 256]) -> Next
             }
             by_name(s, d, lookup_in(added, part(s, a, e)))
         }
-        CommandRead::Failed => Next::Refused(CommandError::ParseFailed),
-        CommandRead::TooLarge => Next::Refused(CommandError::NumberTooLarge),
+        CommandRead::Failed => Next::Refused(Refusal::ParseFailed),
+        CommandRead::TooLarge => Next::Refused(Refusal::NumberTooLarge),
     }
 }
 
 // The run of a line with the added aliases, lent as bytes. What it ends with is written at the front of the store.
 pub fn run(line: &[u8], added: &[u8], store: &mut [u8], classes: &[u8; 256]) -> LineReply
     requires { ⌜ Classes (now classes) ⌝ }
-    requires { ⌜ length (now line) + 40 ≤ length (now store) ⌝ }
-    ensures answer { λ r. ⌜ r ≡ reply (lineFrom (rowsOf (now (added .entry)) ++ shipped) freshOne (now (line .entry))) ⌝ }
-    ensures store { λ r. ⌜ now (store .exit) ≡ storeAfter (lineFrom (rowsOf (now (added .entry)) ++ shipped) freshOne (now (line .entry)) .out) (now (store .entry)) ⌝ }
+    requires { ⌜ length (now line) + spare ≤ length (now store) ⌝ }
+    ensures answer { λ r. ⌜ r ≡ reply (lineFrom (tableWith (rowsOf (now (added .entry)))) freshOne (now (line .entry))) ⌝ }
+    ensures store { λ r. ⌜ now (store .exit) ≡ storeAfter (lineFrom (tableWith (rowsOf (now (added .entry)))) freshOne (now (line .entry)) .out) (now (store .entry)) ⌝ }
     ensures size { λ r. ⌜ length (now (store .exit)) ≡ length (now (store .entry)) ⌝ }
 {
     let mut x = CommandContext::fresh();

@@ -1,6 +1,7 @@
 // Decimal digits.
 use super::byte::within;
 use super::part::byte_at;
+use limits::MOST;
 ghost use mathlib.Core.Path.{_≡_};
 ghost use mathlib.Core.Bool.{true, false, cond};
 ghost use Prim.Native.Nat.{_+_, _*_, _^_, _<_, _≤_};
@@ -16,6 +17,9 @@ pub enum Decimal {
     Value(u64, usize),
     TooLarge,
 }
+
+// A number up to this stays below 2^64 with any digit behind it.
+const SMALL: u64 = MOST / 10 - 1;
 
 // How many zeros are tested at once.
 const BLOCK: usize = 32;
@@ -41,10 +45,10 @@ fn too_large(n: u64, d: u64) -> bool
     requires { ⌜ d ≤ 9 ⌝ }
     ensures { λ r. ⌜ (r ≡ true → 2 ^ 64 ≤ n * 10 + d) × (r ≡ false → n * 10 + d < 2 ^ 64) ⌝ }
 {
-    if n <= 1844674407370955160 {
+    if n <= SMALL {
         return false;
     }
-    (18446744073709551615 - d) / 10 < n
+    (MOST - d) / 10 < n
 }
 
 fn still_zero(m: bool, b: u8) -> bool

@@ -9,32 +9,42 @@ use mathlib.Core.List.{List}
 use Prim.Native.Nat.{ℕ}
 use lib.Dec.{eqb, leb}
 use lib.ListN.{length}
+use Rattle.limits.specs.Limits.{lastCommand, aliasLimit}
+use Rattle.limits.specs.Refusals.{refusalNo}
+use Rattle.limits.specs.declared.refusal.Refusal.{Refusal}
 use Rattle.context.specs.Context as context
-use Rattle.reading.specs.Alone.{checked, atFront}
+use Rattle.reading.specs.Alone.{lineRoom, checkedFor, atFront}
 use Rattle.words.specs.Words.{Row, lookupIn}
 use Rattle.words.specs.declared.words.Named.{Named}
 use Rattle.aliases.specs.Good.{isAlias}
 use Rattle.aliases.specs.Add.{insert}
 use Rattle.commands.specs.Run.{Answer}
 use Rattle.commands.specs.Line.{turned, line}
-use Rattle.session.specs.Layout.{Session, fresh, tableOf, lineOf, sessionOf, remembering, aliasing, written, sound}
+use Rattle.session.specs.Layout.{sessionSize, Session, fresh, tableOf, lineOf, sessionOf, remembering, aliasing, written, sound}
 
 -- a fresh session ---------------------------------------------------------------------------------------------------------------------------
 
 unfoldable pub freshNo : List ℕ → ℕ
-freshNo b = cond (eqb (length b) 1860) 0 99
+freshNo b = cond (eqb (length b) sessionSize) 0 (refusalNo Refusal.NotASession)
 
 unfoldable pub freshBytes : List ℕ → List ℕ
-freshBytes b = cond (eqb (length b) 1860) (written fresh b) b
+freshBytes b = cond (eqb (length b) sessionSize) (written fresh b) b
 
 -- a line ------------------------------------------------------------------------------------------------------------------------------------
 
--- the line l, where the store is so many bytes long
+-- the line l on bytes b that are a session, where the store is so many bytes long: what it answers, and the bytes afterwards
+abbrev pub lineOn : List ℕ → List ℕ → ℕ → Answer
+lineOn b l size = line (tableOf (sessionOf b)) context.fresh l size
+
+abbrev pub bytesOn : List ℕ → List ℕ → ℕ → List ℕ
+bytesOn b l size = checkedFor (lineRoom l) (λ n. b) l size (remembering l b)
+
+-- and on any bytes: 99 comes first
 unfoldable pub lineAnswer : List ℕ → List ℕ → ℕ → Answer
-lineAnswer b l size = cond (sound b) (line (tableOf (sessionOf b)) context.fresh l size) (turned 99)
+lineAnswer b l size = cond (sound b) (lineOn b l size) (turned (refusalNo Refusal.NotASession))
 
 unfoldable pub lineBytes : List ℕ → List ℕ → ℕ → List ℕ
-lineBytes b l size = cond (sound b) (checked (λ n. b) l size (remembering l b)) b
+lineBytes b l size = cond (sound b) (bytesOn b l size) b
 
 -- an alias ------------------------------------------------------------------------------------------------------------------------------------
 
@@ -44,14 +54,15 @@ isNew (Named.Command n) b = false
 isNew Named.Unknown b = b
 
 unfoldable pub isFull : List Row → List ℕ → Bool
-isFull rs w = isNew (lookupIn rs w) (leb 32 (length rs))
+isFull rs w = isNew (lookupIn rs w) (leb aliasLimit (length rs))
 
 -- 8, 9, 13
 unfoldable pub addNo : Session → List ℕ → ℕ → ℕ
-addNo s w c = cond (isAlias w) (cond (leb c 27) (cond (isFull (s .rows) w) 13 0) 9) 8
+addNo s w c =
+    cond (isAlias w) (cond (leb c lastCommand) (cond (isFull (s .rows) w) (refusalNo Refusal.AliasesFull) 0) (refusalNo Refusal.BadCommand)) (refusalNo Refusal.BadAlias)
 
 unfoldable pub aliasNo : List ℕ → List ℕ → ℕ → ℕ
-aliasNo b w c = cond (sound b) (addNo (sessionOf b) w c) 99
+aliasNo b w c = cond (sound b) (addNo (sessionOf b) w c) (refusalNo Refusal.NotASession)
 
 unfoldable pub aliasBytes : List ℕ → List ℕ → ℕ → List ℕ
 aliasBytes b w c = cond (eqb (aliasNo b w c) 0) (aliasing (insert w c (sessionOf b .rows)) b) b
@@ -59,7 +70,7 @@ aliasBytes b w c = cond (eqb (aliasNo b w c) 0) (aliasing (insert w c (sessionOf
 -- the remembered line -------------------------------------------------------------------------------------------------------------------------
 
 unfoldable pub readBackNo : List ℕ → ℕ → ℕ
-readBackNo b size = cond (sound b) (cond (leb (length (lineOf b)) size) 0 12) 99
+readBackNo b size = cond (sound b) (cond (leb (length (lineOf b)) size) 0 (refusalNo Refusal.StoreTooShort)) (refusalNo Refusal.NotASession)
 
 unfoldable pub readBackCount : List ℕ → ℕ → ℕ
 readBackCount b size = cond (eqb (readBackNo b size) 0) (length (lineOf b)) 0

@@ -1,27 +1,30 @@
 -- Laws of the calls on a session in bytes, as the code cites them: one for each way in which a call ends.
 -- Assumes nothing.
 use mathlib.Core.Path.{_≡_, refl, _∙_, ap}
-use mathlib.Core.Bool.{Bool, true, false, cond}
+use mathlib.Core.Bool.{true, false}
 use mathlib.Core.List.{List, _++_}
 use Prim.Native.Nat.{ℕ, _+_, _-_, _≤_}
 use native.Mathlib.Omega.{arith}
 use lib.Dec.{leb}
 use lib.ListN.{length, take, drop}
 use lib.Seq.{take-append-seam}
-use borrow.Author.Tests.{leb-true}
+use Rattle.limits.specs.Limits.{lastCommand}
+use Rattle.limits.specs.Refusals.{refusalNo}
+use Rattle.limits.specs.declared.refusal.Refusal.{Refusal}
 use Rattle.scan.specs.Scan.{partOf}
-use Rattle.utf8.specs.Utf8.{isUtf8}
 use Rattle.store.specs.Splice.{Put, sets-front}
 use Rattle.context.specs.Context as context
-use Rattle.reading.specs.Alone.{atFront, refusalNo}
-use Rattle.reading.specs.Checks.{checkOf, check-good, check-bad}
+use Rattle.reading.specs.Alone.{checkFor, lineRoom, atFront}
+use Rattle.reading.specs.Checks.{checkFor-good, checkFor-bad}
 use Rattle.reading.specs.declared.alone.Checked.{Checked}
-use Rattle.reading.specs.declared.alone.Refusal.{Refusal}
+use Rattle.aliases.specs.Rows.{rowsOf}
+use Rattle.aliases.specs.Good.{isAlias}
+use Rattle.aliases.specs.Add.{insert}
 use Rattle.commands.specs.Run.{outNo, outBytes, lineFrom}
 use Rattle.commands.specs.Line.{turned, line, storeAfter}
 use Rattle.run.specs.Reply.{reply}
-use Rattle.session.specs.Layout.{tableOf, sessionOf, remembering, sound}
-use Rattle.session.specs.Lent.{lineAnswer, lineBytes}
+use Rattle.session.specs.Layout.{tableOf, areaOf, lineOf, sessionOf, remembering, aliasing, sound}
+use Rattle.session.specs.Lent.{lineOn, bytesOn, lineAnswer, lineBytes, isFull, addNo, aliasNo, aliasBytes, readBackNo, readBackCount, readBackStore}
 
 -- a line --------------------------------------------------------------------------------------------------------------------------------------
 
@@ -39,23 +42,63 @@ module _ (b l : List ℕ) (size : ℕ) where
   unfolding lineAnswer lineBytes
   line-99 h = (rw h, rw h)
 
-  pub line-bad : (x : Refusal) → sound b ≡ true → checkOf l size ≡ Checked.Bad x → (lineAnswer b l size ≡ turned (refusalNo x)) × (lineBytes b l size ≡ b)
-  unfolding lineAnswer lineBytes line
-  line-bad x h k = (rw h (check-bad l size x k turned _), rw h (check-bad l size x k (λ n. b) _))
+  pub line-on : sound b ≡ true → (lineAnswer b l size ≡ lineOn b l size) × (lineBytes b l size ≡ bytesOn b l size)
+  unfolding lineAnswer lineBytes
+  line-on h = (rw h, rw h)
 
-  pub line-good : sound b ≡ true → checkOf l size ≡ Checked.Good → (lineAnswer b l size ≡ lineFrom (tableOf (sessionOf b)) context.fresh l) × (lineBytes b l size ≡ remembering l b)
-  unfolding lineAnswer lineBytes line
-  line-good h k = (rw h (check-good l size k turned _), rw h (check-good l size k (λ n. b) _))
+  pub on-bad : (x : Refusal) → checkFor (lineRoom l) l size ≡ Checked.Bad x → (lineOn b l size ≡ turned (refusalNo x)) × (bytesOn b l size ≡ b)
+  unfolding line
+  on-bad x k = (checkFor-bad (lineRoom l) l size x k turned _, checkFor-bad (lineRoom l) l size x k (λ n. b) _)
 
--- a text that passes the checks is short
-pub check-short : (l : List ℕ) (size : ℕ) → checkOf l size ≡ Checked.Good → length l ≤ 1024
-unfolding checkOf
-check-short l size e = go (leb (length l) 1024) (leb (length l + 40) size) (isUtf8 l) refl e
-  where
-    go : (a b c : Bool) → leb (length l) 1024 ≡ a →
-        cond a (cond b (cond c Checked.Good (Checked.Bad Refusal.NotUtf8)) (Checked.Bad Refusal.StoreTooShort)) (Checked.Bad Refusal.LineTooLong) ≡ Checked.Good → length l ≤ 1024
-    go true b c q h = leb-true (length l) 1024 q
-    go false b c q h = let z : _≡_ {A = ℕ} 0 1 = cc in absurd (omega arith)
+  pub on-good : checkFor (lineRoom l) l size ≡ Checked.Good → (lineOn b l size ≡ lineFrom (tableOf (sessionOf b)) context.fresh l) × (bytesOn b l size ≡ remembering l b)
+  unfolding line
+  on-good k = (checkFor-good (lineRoom l) l size k turned _, checkFor-good (lineRoom l) l size k (λ n. b) _)
+
+-- an alias ------------------------------------------------------------------------------------------------------------------------------------
+
+module _ (b w : List ℕ) (c : ℕ) where
+  pub alias-99 : sound b ≡ false → (aliasNo b w c ≡ refusalNo Refusal.NotASession) × (aliasBytes b w c ≡ b)
+  unfolding aliasNo aliasBytes
+  alias-99 h = (rw h, rw h)
+
+  module _ (h : sound b ≡ true) where
+    pub alias-word : isAlias w ≡ false → (aliasNo b w c ≡ refusalNo Refusal.BadAlias) × (aliasBytes b w c ≡ b)
+    unfolding aliasNo aliasBytes addNo
+    alias-word k = (rw (h, k), rw (h, k))
+
+    module _ (k : isAlias w ≡ true) where
+      pub alias-command : leb c lastCommand ≡ false → (aliasNo b w c ≡ refusalNo Refusal.BadCommand) × (aliasBytes b w c ≡ b)
+      unfolding aliasNo aliasBytes addNo
+      alias-command l = (rw (h, k, l), rw (h, k, l))
+
+      module _ (l : leb c lastCommand ≡ true) where
+        pub alias-full : isFull (rowsOf (areaOf b)) w ≡ true → (aliasNo b w c ≡ refusalNo Refusal.AliasesFull) × (aliasBytes b w c ≡ b)
+        unfolding aliasNo aliasBytes addNo sessionOf
+        alias-full f = (rw (h, k, l, f), rw (h, k, l, f))
+
+        pub alias-added : isFull (rowsOf (areaOf b)) w ≡ false → (aliasNo b w c ≡ 0) × (aliasBytes b w c ≡ aliasing (insert w c (rowsOf (areaOf b))) b)
+        unfolding aliasNo aliasBytes addNo sessionOf
+        alias-added f = (rw (h, k, l, f), rw (h, k, l, f))
+
+-- the remembered line --------------------------------------------------------------------------------------------------------------------------
+
+module _ (b store : List ℕ) where
+  -- what reading it back answers, and the store afterwards
+  abbrev pub ReadBack : ℕ → ℕ → List ℕ → Type 0
+  ReadBack refusal count after =
+      (refusal ≡ readBackNo b (length store)) × ((count ≡ readBackCount b (length store)) × (after ≡ readBackStore b store))
+
+  pub read-back-99 : sound b ≡ false → ReadBack (refusalNo Refusal.NotASession) 0 store
+  unfolding readBackNo readBackCount readBackStore
+  read-back-99 h = (rw h, (rw h, rw h))
+
+  pub read-back-short : sound b ≡ true → leb (length (lineOf b)) (length store) ≡ false → ReadBack (refusalNo Refusal.StoreTooShort) 0 store
+  unfolding readBackNo readBackCount readBackStore
+  read-back-short h k = (rw (h, k), (rw (h, k), rw (h, k)))
+
+  pub read-back-good : sound b ≡ true → leb (length (lineOf b)) (length store) ≡ true → ReadBack 0 (length (lineOf b)) (atFront (lineOf b) store)
+  unfolding readBackNo readBackCount readBackStore
+  read-back-good h k = (rw (h, k), (rw (h, k), rw (h, k)))
 
 -- the bytes at the front of what was written
 pub taken : {s s₁ v : List ℕ} {r : ℕ} → Put s s₁ 0 r v → r ≤ length s → partOf s₁ 0 r ≡ v

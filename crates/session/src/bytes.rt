@@ -1,5 +1,12 @@
 // The bytes of a session: the remembered line's length, the aliases' length, the aliases, the line. Bytes that are not used are free.
+use super::layout::AREA;
+use super::layout::AREA_BYTES;
+use super::layout::AREA_COUNT;
+use super::layout::LINE_COUNT;
+use super::layout::LINE_PLACE;
+use super::layout::SESSION;
 use aliases::good::good;
+use limits::LINE;
 use scan::part::byte_at;
 use scan::part::part;
 use store::put_bytes;
@@ -7,13 +14,14 @@ use utf8::utf8::is_utf8;
 ghost use mathlib.Core.Path.{_≡_};
 ghost use Prim.Native.Nat.{_+_, _<_, _≤_};
 ghost use lib.ListN.{length};
+ghost use Rattle.limits.specs.Limits.{lineLimit};
 ghost use Rattle.scan.specs.Bytes.{Classes};
 ghost use Rattle.store.specs.Splice.{Put, Room};
-ghost use Rattle.session.specs.Layout.{two, twoAt, areaOf, lineOf, sound as soundOf, remembering};
+ghost use Rattle.session.specs.Layout.{sessionSize, two, twoAt, areaOf, lineOf, sound as soundOf, remembering};
 
 // The number in two bytes, the low byte first.
 fn two_at(b: &[u8], i: usize) -> usize
-    requires { ⌜ i < 1860 ⌝ }
+    requires { ⌜ i < sessionSize ⌝ }
     ensures value { λ r. ⌜ r ≡ twoAt (now (b .entry)) i ⌝ }
     ensures bound { λ r. ⌜ r < 65536 ⌝ }
 {
@@ -24,14 +32,14 @@ fn two_at(b: &[u8], i: usize) -> usize
 pub fn area(b: &[u8]) -> &[u8]
     ensures { λ r. ⌜ now r ≡ areaOf (now (b .entry)) ⌝ }
 {
-    part(b, 4, 4 + two_at(b, 2))
+    part(b, AREA, AREA + two_at(b, AREA_COUNT))
 }
 
 // The remembered line.
 pub fn remembered(b: &[u8]) -> &[u8]
     ensures { λ r. ⌜ now r ≡ lineOf (now (b .entry)) ⌝ }
 {
-    part(b, 836, 836 + two_at(b, 0))
+    part(b, LINE_PLACE, LINE_PLACE + two_at(b, LINE_COUNT))
 }
 
 // Whether some session is written as these bytes.
@@ -39,13 +47,13 @@ pub fn sound(b: &[u8], classes: &[u8; 256]) -> bool
     requires { ⌜ Classes (now classes) ⌝ }
     ensures { λ r. ⌜ r ≡ soundOf (now (b .entry)) ⌝ }
 {
-    if b.len() != 1860 {
+    if b.len() != SESSION {
         return false;
     }
-    if 1024 < two_at(b, 0) {
+    if LINE < two_at(b, LINE_COUNT) {
         return false;
     }
-    if 832 < two_at(b, 2) {
+    if AREA_BYTES < two_at(b, AREA_COUNT) {
         return false;
     }
     if !is_utf8(remembered(b)) {
@@ -67,10 +75,10 @@ pub fn put_two(b: &mut [u8], at: usize, n: usize) -> usize
 
 // Writes the line that is remembered.
 pub fn remember(b: &mut [u8], line: &[u8])
-    requires { ⌜ length (now line) ≤ 1024 ⌝ }
-    requires { ⌜ length (now b) ≡ 1860 ⌝ }
+    requires { ⌜ length (now line) ≤ lineLimit ⌝ }
+    requires { ⌜ length (now b) ≡ sessionSize ⌝ }
     ensures { λ r. ⌜ now (b .exit) ≡ remembering (now (line .entry)) (now (b .entry)) ⌝ }
 {
-    put_two(b, 0, line.len());
-    put_bytes(b, 836, line);
+    put_two(b, LINE_COUNT, line.len());
+    put_bytes(b, LINE_PLACE, line);
 }

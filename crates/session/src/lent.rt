@@ -4,13 +4,21 @@ use super::bytes::put_two;
 use super::bytes::remember;
 use super::bytes::remembered;
 use super::bytes::sound;
-use super::numbers::refusal_number;
+use super::layout::AREA;
+use super::layout::AREA_BYTES;
+use super::layout::AREA_COUNT;
+use super::layout::LINE_COUNT;
+use super::layout::SESSION;
 use aliases::add::count;
 use aliases::add::put_with;
 use aliases::good::is_alias;
 use aliases::lookup::find;
+use limits::ALIASES;
+use limits::LAST_COMMAND;
+use limits::refusal::Refusal;
+use limits::refusal::number;
 use reading::alone::Checked;
-use reading::alone::check;
+use reading::alone::check_line;
 use run::reply::LineReply;
 use run::run::run;
 use scan::classes::classes;
@@ -19,18 +27,21 @@ use store::put_bytes;
 use words::words::Named;
 ghost use mathlib.Core.Path.{_≡_};
 ghost use mathlib.Core.Bool.{true, false};
-ghost use Prim.Native.Nat.{_+_, _≤_};
+ghost use Prim.Native.Nat.{_≤_};
 ghost use lib.ListN.{length};
+ghost use Rattle.limits.specs.Limits.{lineLimit, lastCommand};
+ghost use Rattle.limits.specs.Refusals.{refusalNo};
 ghost use Rattle.scan.specs.Bytes.{Classes};
+ghost use Rattle.reading.specs.Alone.{lineRoom};
 ghost use Rattle.context.specs.Context.{fresh as freshContext};
 ghost use Rattle.aliases.specs.Rows.{rowsOf};
 ghost use Rattle.aliases.specs.Good.{isAlias};
 ghost use Rattle.aliases.specs.Add.{insert};
 ghost use Rattle.commands.specs.Run.{lineFrom};
-ghost use Rattle.commands.specs.Line.{storeAfter};
+ghost use Rattle.commands.specs.Line.{turned as turnedOf, storeAfter};
 ghost use Rattle.run.specs.Reply.{reply};
-ghost use Rattle.session.specs.Layout.{areaOf, sessionOf, tableOf, remembering, aliasing, sound as soundOf};
-ghost use Rattle.session.specs.Lent.{isFull, freshNo, freshBytes, lineAnswer, lineBytes, aliasNo, aliasBytes, readBackNo, readBackCount, readBackStore};
+ghost use Rattle.session.specs.Layout.{sessionSize, areaOf, sessionOf, tableOf, remembering, aliasing, sound as soundOf};
+ghost use Rattle.session.specs.Lent.{isFull, freshNo, freshBytes, lineOn, bytesOn, lineAnswer, lineBytes, aliasNo, aliasBytes, readBackNo, readBackCount, readBackStore};
 
 // What reading the remembered line back answers: the refusal's number or 0, and the line's byte count.
 #[repr(C)]
@@ -44,20 +55,20 @@ pub fn fresh_in(b: &mut [u8]) -> u64
     ensures answer { λ r. ⌜ r ≡ freshNo (now (b .entry)) ⌝ }
     ensures written { λ r. ⌜ now (b .exit) ≡ freshBytes (now (b .entry)) ⌝ }
 {
-    if b.len() != 1860 {
-        return 99;
+    if b.len() != SESSION {
+        return number(Refusal::NotASession);
     }
-    put_two(b, 0, 0);
-    put_two(b, 2, 0);
+    put_two(b, LINE_COUNT, 0);
+    put_two(b, AREA_COUNT, 0);
     0
 }
 
 // Runs a line that passed the checks, and remembers it.
 fn run_in(b: &mut [u8], line: &[u8], store: &mut [u8], classes: &[u8; 256]) -> LineReply
     requires { ⌜ Classes (now classes) ⌝ }
-    requires { ⌜ length (now b) ≡ 1860 ⌝ }
-    requires { ⌜ length (now line) ≤ 1024 ⌝ }
-    requires { ⌜ length (now line) + 40 ≤ length (now store) ⌝ }
+    requires { ⌜ length (now b) ≡ sessionSize ⌝ }
+    requires { ⌜ length (now line) ≤ lineLimit ⌝ }
+    requires { ⌜ lineRoom (now line) ≤ length (now store) ⌝ }
     ensures answer { λ r. ⌜ r ≡ reply (lineFrom (tableOf (sessionOf (now (b .entry)))) freshContext (now (line .entry))) ⌝ }
     ensures store { λ r. ⌜ now (store .exit) ≡ storeAfter (lineFrom (tableOf (sessionOf (now (b .entry)))) freshContext (now (line .entry)) .out) (now (store .entry)) ⌝ }
     ensures session { λ r. ⌜ now (b .exit) ≡ remembering (now (line .entry)) (now (b .entry)) ⌝ }
@@ -65,6 +76,31 @@ fn run_in(b: &mut [u8], line: &[u8], store: &mut [u8], classes: &[u8; 256]) -> L
     let reply = run(line, area(b), store, classes);
     remember(b, line);
     reply
+}
+
+// What a line answers that is refused before any reading.
+fn turned(x: Refusal) -> LineReply
+    ensures { λ r. ⌜ r ≡ reply (turnedOf (refusalNo x)) ⌝ }
+{
+    LineReply {
+        refusal: number(x),
+        readings: 0,
+        count: 0,
+    }
+}
+
+// Runs a line on bytes that are a session: the checks 1, 12 and 2, and then its run.
+pub fn line_on(b: &mut [u8], line: &[u8], store: &mut [u8], classes: &[u8; 256]) -> LineReply
+    requires { ⌜ Classes (now classes) ⌝ }
+    requires { ⌜ soundOf (now b) ≡ true ⌝ }
+    ensures answer { λ r. ⌜ r ≡ reply (lineOn (now (b .entry)) (now (line .entry)) (length (now (store .entry)))) ⌝ }
+    ensures store { λ r. ⌜ now (store .exit) ≡ storeAfter (lineOn (now (b .entry)) (now (line .entry)) (length (now (store .entry))) .out) (now (store .entry)) ⌝ }
+    ensures session { λ r. ⌜ now (b .exit) ≡ bytesOn (now (b .entry)) (now (line .entry)) (length (now (store .entry))) ⌝ }
+{
+    match check_line(line, store.len()) {
+        Checked::Good => run_in(b, line, store, classes),
+        Checked::Bad(x) => turned(x),
+    }
 }
 
 // Runs a line: input_cmd of commands.rs.
@@ -75,20 +111,9 @@ pub fn line_in(b: &mut [u8], line: &[u8], store: &mut [u8]) -> LineReply
 {
     let table = classes();
     if !sound(b, &table) {
-        return LineReply {
-            refusal: 99,
-            readings: 0,
-            count: 0,
-        };
+        return turned(Refusal::NotASession);
     }
-    match check(line, store.len()) {
-        Checked::Good => run_in(b, line, store, &table),
-        Checked::Bad(x) => LineReply {
-            refusal: refusal_number(x),
-            readings: 0,
-            count: 0,
-        },
-    }
+    line_on(b, line, store, &table)
 }
 
 // Whether there is no place for a word among these aliases.
@@ -97,7 +122,7 @@ fn full(added: &[u8], w: &[u8]) -> bool
 {
     match find(added, w) {
         Named::Command(_) => false,
-        Named::Unknown => 32 <= count(added),
+        Named::Unknown => ALIASES <= count(added),
     }
 }
 
@@ -105,14 +130,14 @@ fn full(added: &[u8], w: &[u8]) -> bool
 fn add_in(b: &mut [u8], w: &[u8], command: u8)
     requires { ⌜ soundOf (now b) ≡ true ⌝ }
     requires { ⌜ isAlias (now w) ≡ true ⌝ }
-    requires { ⌜ command ≤ 27 ⌝ }
+    requires { ⌜ command ≤ lastCommand ⌝ }
     requires { ⌜ isFull (rowsOf (areaOf (now b))) (now w) ≡ false ⌝ }
     ensures { λ r. ⌜ now (b .exit) ≡ aliasing (insert (now (w .entry)) command (rowsOf (areaOf (now (b .entry))))) (now (b .entry)) ⌝ }
 {
-    let mut new = [0u8; 832];
+    let mut new = [0u8; AREA_BYTES];
     let n = put_with(area(b), w, command, &mut new);
-    put_two(b, 2, n);
-    put_bytes(b, 4, part(&new, 0, n));
+    put_two(b, AREA_COUNT, n);
+    put_bytes(b, AREA, part(&new, 0, n));
 }
 
 // Adds an alias, or replaces it.
@@ -122,16 +147,16 @@ pub fn alias_in(b: &mut [u8], w: &[u8], command: u64) -> u64
 {
     let table = classes();
     if !sound(b, &table) {
-        return 99;
+        return number(Refusal::NotASession);
     }
     if !is_alias(w, &table) {
-        return 8;
+        return number(Refusal::BadAlias);
     }
-    if 27 < command {
-        return 9;
+    if (LAST_COMMAND as u64) < command {
+        return number(Refusal::BadCommand);
     }
     if full(area(b), w) {
-        return 13;
+        return number(Refusal::AliasesFull);
     }
     add_in(b, w, command as u8);
     0
@@ -146,14 +171,14 @@ pub fn remembered_in(b: &[u8], store: &mut [u8]) -> CountReply
     let table = classes();
     if !sound(b, &table) {
         return CountReply {
-            refusal: 99,
+            refusal: number(Refusal::NotASession),
             count: 0,
         };
     }
     let line = remembered(b);
     if store.len() < line.len() {
         return CountReply {
-            refusal: 12,
+            refusal: number(Refusal::StoreTooShort),
             count: 0,
         };
     }

@@ -1,5 +1,5 @@
 // A session: its added aliases and the line that it remembers. It rests in bytes, whose layout is in docs/SESSION-BYTES.md.
 pub mod bytes;
+pub mod layout;
 pub mod lent;
-pub mod numbers;
 pub mod value;

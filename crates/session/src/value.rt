@@ -1,4 +1,5 @@
 // A session by value. It holds the bytes in which it rests over C, and lends them.
+use super::layout::SESSION;
 use super::lent::CountReply;
 use super::lent::alias_in;
 use super::lent::fresh_in;
@@ -6,15 +7,14 @@ use super::lent::line_in;
 use super::lent::remembered_in;
 use run::reply::LineReply;
 ghost use mathlib.Core.Path.{_≡_};
-ghost use mathlib.Core.List.{replicate};
-ghost use lib.ListN.{length};
+ghost use lib.ListN.{length, replicate};
 ghost use Rattle.commands.specs.Line.{storeAfter};
 ghost use Rattle.run.specs.Reply.{reply};
-ghost use Rattle.session.specs.Layout.{fresh as freshOne, written};
+ghost use Rattle.session.specs.Layout.{sessionSize, fresh as freshOne, written};
 ghost use Rattle.session.specs.Lent.{lineAnswer, lineBytes, aliasNo, aliasBytes, readBackNo, readBackCount, readBackStore};
 
 pub struct Session {
-    pub bytes: [u8; 1860],
+    pub bytes: [u8; SESSION],
 }
 
 // What a line answers, and the session afterwards.
@@ -31,9 +31,9 @@ pub struct Added {
 
 // A fresh session.
 pub fn fresh() -> Session
-    ensures { λ r. ⌜ r .bytes ≡ written freshOne (replicate 1860 0) ⌝ }
+    ensures { λ r. ⌜ r .bytes ≡ written freshOne (replicate sessionSize 0) ⌝ }
 {
-    let mut bytes = [0u8; 1860];
+    let mut bytes = [0u8; SESSION];
     fresh_in(&mut bytes);
     Session { bytes: bytes }
 }

@@ -3,15 +3,17 @@
 use mathlib.Core.Bool.{cond}
 use mathlib.Core.List.{List}
 use Prim.Native.Nat.{ℕ, _+_, _%_, _^_}
-use lib.Dec.{eqb, ltb}
-use lib.ListN.{getD, set, replicate}
+use lib.Dec.{eqb}
+use lib.ListN.{length, getD, set, replicate}
+use Rattle.limits.specs.Refusals.{refusals, refusalOf, placeOf}
+use Rattle.limits.specs.declared.refusal.Numbered.{Numbered}
 use Rattle.scan.specs.Scan.{byteAt}
 use Rattle.run.specs.declared.reply.LineReply.{LineReply}
 use Rattle.sheet.specs.declared.tally.Tally.{Tally}
 
 -- no line yet
 unfoldable pub noLines : Tally
-noLines = record { lines = 0; actions = 0; nothing = 0; refused = 0; by = replicate 14 0 }
+noLines = record { lines = 0; actions = 0; nothing = 0; refused = 0; by = replicate (length refusals + 1) 0 }
 
 -- one more of what is counted
 unfoldable pub oneMore : ℕ → ℕ
@@ -25,9 +27,17 @@ withAccepted t kind =
     (record { lines = oneMore (t .lines); actions = t .actions; nothing = oneMore (t .nothing); refused = t .refused; by = t .by })
     (record { lines = oneMore (t .lines); actions = oneMore (t .actions); nothing = t .nothing; refused = t .refused; by = t .by })
 
--- the refused lines by number: the numbers are those below 14
+-- where lines refused by a number are counted: each refusal has its count, and the last one is for numbers that no refusal has
+abbrev entryBy : Numbered → ℕ
+entryBy (Numbered.Refused x) = placeOf x
+entryBy Numbered.Accepted = length refusals
+entryBy Numbered.Unused = length refusals
+
+unfoldable pub entryOf : ℕ → ℕ
+entryOf n = entryBy (refusalOf n)
+
 unfoldable pub byNumber : List ℕ → ℕ → List ℕ
-byNumber by n = cond (ltb n 14) (set by n (oneMore (getD by n 0))) by
+byNumber by n = set by (entryOf n) (oneMore (getD by (entryOf n) 0))
 
 -- a line that is refused
 unfoldable pub withRefused : Tally → ℕ → Tally

@@ -1,6 +1,10 @@
 // One line of an alias file: a word and a command, by its number or by one of its spellings, with spaces about them.
 use blocks::run::skip_spaces;
 use blocks::test::not_space;
+use limits::LINE;
+use limits::MOST;
+use limits::refusal::Refusal;
+use limits::refusal::number;
 use scan::classes::classes;
 use scan::decimal::Decimal;
 use scan::decimal::digits;
@@ -38,7 +42,7 @@ fn field_end(s: &[u8], at: usize) -> usize {
 }
 
 // The command that a text names: digits are its number, and anything else is one of its spellings. A number that is too large for 64
-// bits is above 27 like others.
+// bits is above the last command's like others.
 fn command_of(s: &[u8]) -> Named {
     match digits(s, 0) {
         Decimal::Absent => lookup(s),
@@ -48,7 +52,7 @@ fn command_of(s: &[u8]) -> Named {
             }
             Named::Unknown
         }
-        Decimal::TooLarge => Named::Command(u64::MAX),
+        Decimal::TooLarge => Named::Command(MOST),
     }
 }
 
@@ -57,7 +61,7 @@ fn add(session: &mut [u8], line: &[u8], w: usize, e: usize, c: usize, f: usize) 
     match command_of(part(line, c, f)) {
         Named::Command(n) => plain(alias_in(session, part(line, w, e), n)),
         Named::Unknown => Added {
-            refusal: 10,
+            refusal: number(Refusal::UnknownWord),
             start: c,
             stop: f,
         },
@@ -76,7 +80,7 @@ fn read(session: &mut [u8], line: &[u8]) -> Added {
     let c = skip_spaces(line, e, &table);
     let f = field_end(line, c);
     if n <= c || skip_spaces(line, f, &table) != n {
-        return plain(3);
+        return plain(number(Refusal::ParseFailed));
     }
     add(session, line, w, e, c, f)
 }
@@ -84,11 +88,11 @@ fn read(session: &mut [u8], line: &[u8]) -> Added {
 // Adds the alias of a line. Refused are, in this order: a line above 1,024 bytes or not UTF-8 (1, 2), one that is not two words (3), a
 // command that there is not (10), and what the session refuses (8, 9, 13).
 pub fn alias_line(session: &mut [u8], line: &[u8]) -> Added {
-    if 1024 < line.len() {
-        return plain(1);
+    if LINE < line.len() {
+        return plain(number(Refusal::LineTooLong));
     }
     if !is_utf8(line) {
-        return plain(2);
+        return plain(number(Refusal::NotUtf8));
     }
     read(session, line)
 }

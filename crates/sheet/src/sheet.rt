@@ -7,6 +7,8 @@ use super::tally::Tally;
 use super::tally::none;
 use super::tally::tallied;
 use libc::STDOUT_FILENO;
+use limits::LINE;
+use limits::STORE;
 use scan::classes::Kind;
 use scan::classes::classes;
 use scan::part::part;
@@ -130,7 +132,7 @@ fn line_told(session: &mut [u8], line: &[u8], out: &mut [u8], s: Sheet) -> Sheet
     let number = next(s.number);
     let tally = s.tally;
     let before = s.report;
-    let mut store = [0u8; 1065];
+    let mut store = [0u8; STORE + 1];
     let reply = line_in(session, line, &mut store);
     let written = part(&store, 0, reply.count as usize);
     let at = put_line(out, before.at, number, reply, written);
@@ -241,7 +243,7 @@ fn turn(fd: i32, session: &mut [u8], line: &mut [u8], out: &mut [u8], s: Sheet) 
 
 // Runs a whole sheet. A proved loop has to end, so it counts its turns down from a number that no run uses up.
 pub fn run(fd: i32, session: &mut [u8], out: &mut [u8], s: Sheet) -> Sheet {
-    let mut line = [0u8; 1025];
+    let mut line = [0u8; LINE + 1];
     let mut turns = u64::MAX;
     let mut t = s;
     while turns > 0 && t.more {

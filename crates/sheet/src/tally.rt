@@ -1,20 +1,32 @@
 // How many lines there were, and what they came to.
+use limits::refusal::LAST_REFUSAL;
+use limits::refusal::Numbered;
+use limits::refusal::REFUSALS;
+use limits::refusal::place;
+use limits::refusal::refusal_of;
 use run::reply::LineReply;
 use scan::part::byte_at;
 use wording::put::put_byte;
 use wording::put::put_decimal;
 use wording::put::put_text;
 ghost use mathlib.Core.Path.{_≡_};
+ghost use Prim.Native.Nat.{_+_, _<_};
+ghost use lib.ListN.{length};
+ghost use Rattle.limits.specs.Refusals.{refusals};
 ghost use Rattle.wording.specs.Behind.{Behind};
-ghost use Rattle.sheet.specs.Tally.{noLines, oneMore, withAccepted, withLine, withRefused};
+ghost use Rattle.sheet.specs.Tally.{noLines, oneMore, entryOf, withAccepted, withLine, withRefused};
 
-// Lines, those with an action, those that give nothing, those refused, and the refused ones by number.
+// How many counts of refused lines there are.
+pub const COUNTS: usize = REFUSALS + 1;
+
+// Lines, those with an action, those that give nothing, those refused, and of these how many by each refusal, in the order of their
+// numbers; the last count is for numbers that no refusal has.
 pub struct Tally {
     pub lines: u64,
     pub actions: u64,
     pub nothing: u64,
     pub refused: u64,
-    pub by: [u64; 14],
+    pub by: [u64; COUNTS],
 }
 
 pub fn none() -> Tally
@@ -25,7 +37,7 @@ pub fn none() -> Tally
         actions: 0,
         nothing: 0,
         refused: 0,
-        by: [0; 14],
+        by: [0; COUNTS],
     }
 }
 
@@ -58,14 +70,24 @@ fn accepted(t: Tally, kind: u8) -> Tally
     }
 }
 
+// Where lines refused by a number are counted.
+fn entry(n: u64) -> usize
+    ensures value { λ r. ⌜ r ≡ entryOf n ⌝ }
+    ensures bound { λ r. ⌜ r < length refusals + 1 ⌝ }
+{
+    match refusal_of(n) {
+        Numbered::Refused(x) => place(x),
+        Numbered::Accepted => REFUSALS,
+        Numbered::Unused => REFUSALS,
+    }
+}
+
 fn refused(t: Tally, refusal: u64) -> Tally
     ensures { λ r. ⌜ r ≡ withRefused t refusal ⌝ }
 {
     let mut by = t.by;
-    if refusal < 14 {
-        let i = refusal as usize;
-        by[i] = one_more(by[i]);
-    }
+    let i = entry(refusal);
+    by[i] = one_more(by[i]);
     Tally {
         lines: one_more(t.lines),
         actions: t.actions,
@@ -105,17 +127,39 @@ fn put_by(out: &mut [u8], at: usize, n: u64, count: u64) -> usize
     put_decimal(out, j, n)
 }
 
+// The same for a number that a refusal may have.
+fn put_by_number(out: &mut [u8], at: usize, n: u64, by: &[u64; COUNTS]) -> usize
+    ensures { λ r. ⌜ Behind (now (out .entry)) (now (out .exit)) at r ⌝ }
+{
+    match refusal_of(n) {
+        Numbered::Refused(x) => put_by(out, at, n, by[place(x)]),
+        Numbered::Accepted => at,
+        Numbered::Unused => at,
+    }
+}
+
+// How many lines were refused by numbers that no refusal has, if any.
+fn put_others(out: &mut [u8], at: usize, count: u64) -> usize
+    ensures { λ r. ⌜ Behind (now (out .entry)) (now (out .exit)) at r ⌝ }
+{
+    if count == 0 {
+        return at;
+    }
+    let i = put_text(out, at, b", ");
+    put_count(out, i, count, b" by a number that no refusal has")
+}
+
 // The refused lines by number.
-fn put_all_by(out: &mut [u8], at: usize, by: &[u64]) -> usize
+fn put_all_by(out: &mut [u8], at: usize, by: &[u64; COUNTS]) -> usize
     ensures { λ r. ⌜ Behind (now (out .entry)) (now (out .exit)) at r ⌝ }
 {
     let mut to = at;
-    let mut i: usize = 0;
-    while i < by.len() {
-        to = put_by(out, to, i as u64, by[i]);
-        i += 1;
+    let mut n: u64 = 0;
+    while n <= LAST_REFUSAL {
+        to = put_by_number(out, to, n, by);
+        n += 1;
     }
-    to
+    put_others(out, to, by[REFUSALS])
 }
 
 // Lines, actions and those that give nothing.
@@ -137,7 +181,7 @@ pub fn put_tally(out: &mut [u8], at: usize, t: Tally) -> usize
     put_end(out, j, &by)
 }
 
-fn put_end(out: &mut [u8], at: usize, by: &[u64]) -> usize
+fn put_end(out: &mut [u8], at: usize, by: &[u64; COUNTS]) -> usize
     ensures { λ r. ⌜ Behind (now (out .entry)) (now (out .exit)) at r ⌝ }
 {
     let i = put_all_by(out, at, by);

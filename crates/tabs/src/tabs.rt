@@ -3,11 +3,11 @@ use actions::action::Action;
 use actions::action::Count;
 use actions::action::FocusChange;
 use actions::action::TabAction;
-use focus::focus::CommandError;
 use focus::focus::Focused;
 use focus::focus::focus_again;
 use focus::focus::range_to_fc;
 use handlers::done::Done;
+use limits::refusal::Refusal;
 use ranges::range::MoveDir1D;
 use ranges::range::RangeEnding;
 use ranges::range::RangeEndingType;
@@ -26,7 +26,7 @@ pub enum TabRange {
     Absent,
     InLine(RangeSpec),
     InArgument(RangeSpec),
-    Refused(CommandError),
+    Refused(Refusal),
 }
 
 fn unargued(g: RangeRead) -> TabRange
@@ -35,7 +35,7 @@ fn unargued(g: RangeRead) -> TabRange
     match g {
         RangeRead::Found(x, _) => TabRange::InLine(x),
         RangeRead::Absent => TabRange::Absent,
-        RangeRead::TooLarge => TabRange::Refused(CommandError::NumberTooLarge),
+        RangeRead::TooLarge => TabRange::Refused(Refusal::NumberTooLarge),
     }
 }
 
@@ -44,8 +44,8 @@ fn argued(w: WholeRead) -> TabRange
 {
     match w {
         WholeRead::Range(x) => TabRange::InArgument(x),
-        WholeRead::Bad => TabRange::Refused(CommandError::InvalidArgument),
-        WholeRead::TooLarge => TabRange::Refused(CommandError::NumberTooLarge),
+        WholeRead::Bad => TabRange::Refused(Refusal::InvalidArgument),
+        WholeRead::TooLarge => TabRange::Refused(Refusal::NumberTooLarge),
     }
 }
 
@@ -57,9 +57,9 @@ fn tab_range(g: RangeRead, a: &[u8], classes: &[u8; 256]) -> TabRange
         return unargued(g);
     }
     match g {
-        RangeRead::Found(_, _) => TabRange::Refused(CommandError::InvalidArgument),
+        RangeRead::Found(_, _) => TabRange::Refused(Refusal::InvalidArgument),
         RangeRead::Absent => argued(parse_whole_range(a, classes)),
-        RangeRead::TooLarge => TabRange::Refused(CommandError::NumberTooLarge),
+        RangeRead::TooLarge => TabRange::Refused(Refusal::NumberTooLarge),
     }
 }
 
@@ -122,15 +122,15 @@ fn back_end(e: RangeEnding) -> Focused
                     true,
                 ));
             }
-            Focused::Refused(CommandError::InvalidRange)
+            Focused::Refused(Refusal::InvalidRange)
         }
-        RangeEndingType::Unspecified => Focused::Refused(CommandError::InvalidRange),
-        RangeEndingType::Current => Focused::Refused(CommandError::InvalidRange),
-        RangeEndingType::Last => Focused::Refused(CommandError::InvalidRange),
-        RangeEndingType::All => Focused::Refused(CommandError::InvalidRange),
-        RangeEndingType::Search(_) => Focused::Refused(CommandError::InvalidRange),
-        RangeEndingType::SubPatSearch => Focused::Refused(CommandError::InvalidRange),
-        RangeEndingType::Mark(_) => Focused::Refused(CommandError::InvalidRange),
+        RangeEndingType::Unspecified => Focused::Refused(Refusal::InvalidRange),
+        RangeEndingType::Current => Focused::Refused(Refusal::InvalidRange),
+        RangeEndingType::Last => Focused::Refused(Refusal::InvalidRange),
+        RangeEndingType::All => Focused::Refused(Refusal::InvalidRange),
+        RangeEndingType::Search(_) => Focused::Refused(Refusal::InvalidRange),
+        RangeEndingType::SubPatSearch => Focused::Refused(Refusal::InvalidRange),
+        RangeEndingType::Mark(_) => Focused::Refused(Refusal::InvalidRange),
     }
 }
 
@@ -139,7 +139,7 @@ fn back(g: RangeSpec) -> Focused
 {
     match g {
         RangeSpec::Single(e) => back_end(e),
-        RangeSpec::Double(_, _, _) => Focused::Refused(CommandError::InvalidRange),
+        RangeSpec::Double(_, _, _) => Focused::Refused(Refusal::InvalidRange),
     }
 }
 
@@ -172,8 +172,8 @@ fn move_argument(a: &[u8], w: WholeRead) -> Focused
 {
     match w {
         WholeRead::Range(x) => range_to_fc(a, x, false),
-        WholeRead::Bad => Focused::Refused(CommandError::ParseFailed),
-        WholeRead::TooLarge => Focused::Refused(CommandError::NumberTooLarge),
+        WholeRead::Bad => Focused::Refused(Refusal::ParseFailed),
+        WholeRead::TooLarge => Focused::Refused(Refusal::NumberTooLarge),
     }
 }
 
@@ -184,7 +184,7 @@ fn move_range(s: &[u8], g: RangeRead, a: &[u8], classes: &[u8; 256]) -> Focused
 {
     match g {
         RangeRead::Found(x, _) => range_to_fc(s, x, false),
-        RangeRead::TooLarge => Focused::Refused(CommandError::NumberTooLarge),
+        RangeRead::TooLarge => Focused::Refused(Refusal::NumberTooLarge),
         RangeRead::Absent => {
             if a.len() == 0 {
                 return Focused::To(FocusChange::End);

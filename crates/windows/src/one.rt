@@ -1,5 +1,5 @@
 // An argument that may name one thing.
-use focus::focus::CommandError;
+use limits::refusal::Refusal;
 use lists::list::Item;
 use lists::list::ListRead;
 use lists::list::Picked;
@@ -12,7 +12,7 @@ ghost use Rattle.windows.specs.One.{onlyPicked, onlyRead, onlyItem};
 pub enum OnlyItem {
     Absent,
     One(Item),
-    Refused(CommandError),
+    Refused(Refusal),
 }
 
 fn only_picked(p: Picked) -> OnlyItem
@@ -30,12 +30,12 @@ fn only_read(l: ListRead) -> OnlyItem
     match l {
         ListRead::List(seen) => {
             if 1 < seen.count {
-                return OnlyItem::Refused(CommandError::InvalidArgument);
+                return OnlyItem::Refused(Refusal::InvalidArgument);
             }
             let picked = seen.picked;
             only_picked(picked)
         }
-        ListRead::Bad => OnlyItem::Refused(CommandError::ParseFailed),
+        ListRead::Bad => OnlyItem::Refused(Refusal::ParseFailed),
     }
 }
 

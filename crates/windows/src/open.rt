@@ -9,12 +9,12 @@ use actions::action::TabAction;
 use actions::flags::OpenFlags;
 use context::context::CommandContext;
 use context::context::Size;
-use focus::focus::CommandError;
 use focus::focus::Counted;
 use focus::focus::Focused;
 use focus::focus::range_to_count;
 use focus::focus::window_range_target;
 use handlers::done::Done;
+use limits::refusal::Refusal;
 use lists::list::Item;
 use lists::list::lone;
 use ranges::range::RangeRead;
@@ -27,13 +27,13 @@ ghost use Rattle.windows.specs.Open.{targetOf, openedBy, opened, opening
 // What is opened, or a refusal.
 pub enum Opened {
     Target(OpenTarget),
-    Refused(CommandError),
+    Refused(Refusal),
 }
 
 // The size that a range asks for, or a refusal.
 pub enum WindowSize {
     Is(Size),
-    Refused(CommandError),
+    Refused(Refusal),
 }
 
 // The file name that an item is: a lone `#`, a lone `%`, or a name.
@@ -101,7 +101,7 @@ fn window_size(s: &[u8], g: RangeRead) -> WindowSize
     match g {
         RangeRead::Found(r, _) => sized_by(range_to_count(s, r)),
         RangeRead::Absent => WindowSize::Is(Size::Absent),
-        RangeRead::TooLarge => WindowSize::Refused(CommandError::NumberTooLarge),
+        RangeRead::TooLarge => WindowSize::Refused(Refusal::NumberTooLarge),
     }
 }
 
@@ -150,7 +150,8 @@ fn tab_by(t: Opened, f: OpenFlags, c: Focused) -> Done
     }
 }
 
-// The `:split` command. Alias: `sp`. Opens a window on a file, or splits the window.
+// The `:split` command. Alias: `sp`. Opens a window of the size that its range says, or else splits the current one; behind a tab prefix it
+// opens a tab.
 pub fn vim_cmd_sp(s: &[u8], d: CommandDescription, x: CommandContext, classes: &[u8; 256]) -> Done
     requires { ⌜ Classes (now classes) ⌝ }
     ensures { λ r. ⌜ r ≡ splitOf (now (s .entry)) d x ⌝ }

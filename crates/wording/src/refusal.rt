@@ -3,31 +3,84 @@ use super::put::put_decimal;
 use super::put::put_quoted;
 use super::put::put_text;
 use super::record::name_of;
+use limits::ALIASES;
+use limits::LAST_COMMAND;
+use limits::LINE;
+use limits::MOST;
+use limits::WORD;
+use limits::refusal::Numbered;
+use limits::refusal::Refusal;
+use limits::refusal::number;
+use limits::refusal::refusal_of;
 ghost use Rattle.wording.specs.Behind.{Behind};
+
+// Words about a limit.
+fn put_limit(out: &mut [u8], at: usize, before: &[u8], limit: u64, behind: &[u8]) -> usize
+    ensures { λ r. ⌜ Behind (now (out .entry)) (now (out .exit)) at r ⌝ }
+{
+    let i = put_text(out, at, before);
+    let j = put_decimal(out, i, limit);
+    put_text(out, j, behind)
+}
+
+// The one home of the words: a case that has none is an error.
+fn put_words(out: &mut [u8], at: usize, x: Refusal) -> usize
+    ensures { λ r. ⌜ Behind (now (out .entry)) (now (out .exit)) at r ⌝ }
+{
+    match x {
+        Refusal::LineTooLong => {
+            put_limit(out, at, b"the line is longer than ", LINE as u64, b" bytes")
+        }
+        Refusal::NotUtf8 => put_text(out, at, b"the line is not UTF-8"),
+        Refusal::ParseFailed => put_text(
+            out,
+            at,
+            b"the line, or a list or range in it, does not parse",
+        ),
+        Refusal::NumberTooLarge => put_limit(out, at, b"a number is above ", MOST, b""),
+        Refusal::InvalidArgument => put_text(out, at, b"the command does not take this argument"),
+        Refusal::InvalidRange => put_text(out, at, b"the command does not take this range"),
+        Refusal::SumTooLarge => put_limit(out, at, b"a sum of offsets is above ", MOST, b""),
+        Refusal::BadAlias => {
+            put_limit(
+                out,
+                at,
+                b"the alias is not 1 to ",
+                WORD as u64,
+                b" word characters",
+            )
+        }
+        Refusal::BadCommand => {
+            put_limit(
+                out,
+                at,
+                b"the command's number is above ",
+                LAST_COMMAND as u64,
+                b"",
+            )
+        }
+        Refusal::UnknownWord => put_text(out, at, b"no command has this word"),
+        Refusal::Unimplemented => put_text(out, at, b"the command is not implemented"),
+        Refusal::StoreTooShort => put_text(out, at, b"the store is too short"),
+        Refusal::AliasesFull => put_limit(
+            out,
+            at,
+            b"there are ",
+            ALIASES as u64,
+            b" aliases, and no place for a new one",
+        ),
+        Refusal::NotASession => put_text(out, at, b"the bytes are not a session"),
+    }
+}
 
 // A refusal by its number.
 pub fn put_refusal(out: &mut [u8], at: usize, n: u64) -> usize
     ensures { λ r. ⌜ Behind (now (out .entry)) (now (out .exit)) at r ⌝ }
 {
-    match n {
-        1 => put_text(out, at, b"the line is longer than 1024 bytes"),
-        2 => put_text(out, at, b"the line is not UTF-8"),
-        3 => put_text(
-            out,
-            at,
-            b"the line, or a list or range in it, does not parse",
-        ),
-        4 => put_text(out, at, b"a number is above 18446744073709551615"),
-        5 => put_text(out, at, b"the command does not take this argument"),
-        6 => put_text(out, at, b"the command does not take this range"),
-        7 => put_text(out, at, b"a sum of offsets is above 18446744073709551615"),
-        8 => put_text(out, at, b"the alias is not 1 to 24 word characters"),
-        9 => put_text(out, at, b"the command's number is above 27"),
-        10 => put_text(out, at, b"no command has this word"),
-        11 => put_text(out, at, b"the command is not implemented"),
-        12 => put_text(out, at, b"the store is too short"),
-        13 => put_text(out, at, b"there are 32 aliases, and no place for a new one"),
-        _ => put_text(out, at, b"the bytes are not a session"),
+    match refusal_of(n) {
+        Numbered::Refused(x) => put_words(out, at, x),
+        Numbered::Accepted => put_text(out, at, b"not refused"),
+        Numbered::Unused => put_limit(out, at, b"no refusal has the number ", n, b""),
     }
 }
 
@@ -45,7 +98,7 @@ pub fn put_refused_word(out: &mut [u8], at: usize, n: u64, word: &[u8]) -> usize
 pub fn put_refused(out: &mut [u8], at: usize, n: u64, readings: u64, written: &[u8]) -> usize
     ensures { λ r. ⌜ Behind (now (out .entry)) (now (out .exit)) at r ⌝ }
 {
-    if n == 10 {
+    if n == number(Refusal::UnknownWord) {
         return put_refused_word(out, at, n, name_of(written));
     }
     let i = put_refusal(out, at, n);

@@ -8,6 +8,7 @@ use mathlib.Core.List.{List, [], _∷_}
 use Prim.Native.Nat.{ℕ, suc}
 use lib.Dec.{eqb, leb}
 use lib.ListN.{length}
+use Rattle.limits.specs.Limits.{lastCommand}
 use Rattle.words.specs.Words.{Row, aliases, names, shipped, same, lookupIn, lookup}
 use Rattle.words.specs.declared.words.Named.{Named}
 
@@ -42,9 +43,9 @@ abbrev pub allUpTo : ℕ → List Row → Bool
 allUpTo n [] = true
 allUpTo n (r ∷ rs) = leb (r .command) n && allUpTo n rs
 
-pub words-27 : allUpTo 27 shipped ≡ true
+pub words-last : allUpTo lastCommand shipped ≡ true
 unfolding shipped aliases names
-words-27 = refl
+words-last = refl
 
 -- whether each word of the rows leads to the command that stands beside it
 abbrev leads : Named → ℕ → Bool

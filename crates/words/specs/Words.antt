@@ -41,6 +41,10 @@ names =
 unfoldable pub shipped : List Row
 shipped = aliases ++ names
 
+-- the words that a line is run with: added aliases first, then those shipped
+abbrev pub tableWith : List Row → List Row
+tableWith added = added ++ shipped
+
 -- two words are the same
 unfoldable pub same : List ℕ → List ℕ → Bool
 same [] [] = true

@@ -3,7 +3,8 @@
 use borrow.Author.Tests.{le-leb, lt-leb}
 use native.Mathlib.Omega.{arith}
 use Prim.Native.Nat.{_+_, _≤_, _<_}
-use Rattle.focus.specs.Sum.{moved, most}
+use Rattle.limits.specs.Limits.{most}
+use Rattle.focus.specs.Sum.{moved}
 use borrow.Author.Needs.{needs}
 use Rattle.focus.proofs.sum.moved.Statement.{statement}
 use Rattle.focus.proofs.sum.moved.Tie as tie

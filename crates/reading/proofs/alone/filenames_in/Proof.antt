@@ -1,7 +1,7 @@
 -- `alone::filenames_in` meets its contract.
 -- Assumes nothing.
 use native.Mathlib.Omega.{arith}
-use Rattle.reading.specs.Alone.{filenamesTold, refusalNo, filenameSeen, filenameBytes}
+use Rattle.reading.specs.Alone.{filenamesTold, filenameSeen, filenameBytes}
 use Rattle.reading.specs.Checks.{said-refused, said-beyond, said-item, filename-short}
 use Rattle.reading.specs.AloneLaws.{item-room, list-bad, list-pick}
 use borrow.Author.Needs.{needs}
@@ -35,11 +35,11 @@ filename-requires c κs =
     (search needs, item-room (entry .args .text .now) (entry .args .store .now) (at-picked .picked .given .0 .0 .start) (entry .pre))
 
 returns : tie.Need-returns
-unfolding filenamesTold refusalNo
+unfolding filenamesTold
 returns c = said-refused filenameSeen filenameBytes _ _ 3 (list-bad _ _ _ _ (c .before .before .parse-list .ensures) (c .enum-told .given .1))
 
 returns-2 : tie.Need-returns-2
-unfolding filenamesTold refusalNo
+unfolding filenamesTold
 returns-2 c =
     let at-seen = c .before .before .before in
     said-beyond filenameSeen filenameBytes _ _ _ (list-pick _ _ _ _ (at-seen .before .before .parse-list .ensures) _ _ (at-seen .seen .given .1) (c .enum-told2 .given .1))
@@ -48,7 +48,7 @@ same-length : tie.Need-same-length
 same-length c = search needs
 
 returns-3 : tie.Need-returns-3
-unfolding filenamesTold refusalNo
+unfolding filenamesTold
 returns-3 c =
     let at-filename = c .before .before in
     let at-picked = at-filename .before .before .before .before in

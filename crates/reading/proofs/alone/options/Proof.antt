@@ -1,11 +1,8 @@
 -- `alone::options` meets its contract.
 -- Assumes nothing.
-use mathlib.Core.Path.{_∙_, sym}
-use native.Mathlib.Omega.{arith}
-use lib.ListN.{length}
 use Rattle.lists.specs.Listed.{optionBytes}
-use Rattle.reading.specs.Alone.{Answer, optionsAlone, optionsTold, optionCounts}
-use Rattle.reading.specs.Checks.{check-room, check-bad, said-refused, said-checked}
+use Rattle.reading.specs.Alone.{optionsAlone, optionsTold, optionCounts}
+use Rattle.reading.specs.AloneLaws.{alone-room, alone-good, alone-bad}
 use borrow.Author.Needs.{needs}
 use Rattle.reading.proofs.alone.options.Statement.{statement}
 use Rattle.reading.proofs.alone.options.Tie as tie
@@ -28,15 +25,12 @@ same-length c = search needs
 returns : tie.Need-returns
 unfolding optionsAlone optionsTold
 returns c =
-    let a = c .before .before .before .before .before .before .before .before .before .args in
-    said-checked optionCounts optionBytes _ _ (a .text .now) (length (a .store .now)) (sym (c .before .before .before .before .before .before .check .ensures) ∙ c .before .before .before .before .enum-told .given .1) (c .before .before .options-in .ensures)
+    let at-enum-told = c .before .before .before .before in
+    alone-good _ _ _ (at-enum-told .before .before .check .ensures) optionCounts optionBytes _ _ (at-enum-told .enum-told .given .1) (c .before .before .options-in .ensures)
 
 returns-2 : tie.Need-returns-2
 unfolding optionsAlone optionsTold
-returns-2 c =
-    let a = c .before .before .before .before .before .before .args in
-    said-refused optionCounts optionBytes _ _ _
-    (check-bad (a .text .now) (length (a .store .now)) _ (sym (c .before .before .before .check .ensures) ∙ c .before .x .given .1) Answer.refused _)
+returns-2 c = alone-bad _ _ _ (c .before .before .before .check .ensures) optionCounts optionBytes _ _ _ (c .before .x .given .1)
 
 pub options-spec : {M : Type 1} → statement M
 options-spec =

@@ -1,13 +1,13 @@
 -- `alone::options_in` meets its contract.
 -- Assumes nothing.
-use mathlib.Core.Path.{_∙_, sym}
+use mathlib.Core.Path.{_∙_, sym, ap}
 use native.Mathlib.Omega.{arith}
 use Rattle.lists.specs.Listed.{optionBytes}
-use Rattle.lists.specs.ListLaws.{text-length}
-use Rattle.reading.specs.Alone.{optionsTold, optionCounts, refusalNo}
+use Rattle.reading.specs.Alone.{optionsTold, optionCounts}
 use Rattle.reading.specs.Told.{optionTold}
 use Rattle.reading.specs.ToldLaws.{option-told}
-use Rattle.reading.specs.Checks.{byOptions, options-answer, options-keyless, options-pick, said-refused, said-beyond, said-item, option-short}
+use Rattle.reading.specs.Checks.{options-keyless, options-pick, said-refused, said-beyond, said-item, option-short}
+use Rattle.reading.specs.AloneLaws.{item-room, options-bad}
 use borrow.Author.Needs.{needs}
 use Rattle.reading.proofs.alone.options_in.Statement.{statement}
 use Rattle.reading.proofs.alone.options_in.Tie as tie
@@ -25,8 +25,10 @@ enum-known-seen : tie.Need-enum-known-seen
 enum-known-seen c = search needs
 
 returns : tie.Need-returns
-unfolding optionsTold refusalNo
-returns c = said-refused optionCounts optionBytes _ _ 5 (options-keyless _ _ _ (sym (c .before .before .before .before .parse-list .ensures) ∙ c .before .before .seen .given .1) (c .if1 .taken))
+unfolding optionsTold
+returns c =
+    let at-seen = c .before .before in
+    said-refused optionCounts optionBytes _ _ 5 (options-keyless _ _ _ (sym (at-seen .before .before .parse-list .ensures) ∙ at-seen .seen .given .1) (c .if1 .taken))
 
 enum-told-2 : tie.Need-enum-told-2
 enum-told-2 c = search needs
@@ -43,27 +45,34 @@ copy-option-requires c κs =
     (search needs, item-room (entry .args .text .now) (entry .args .store .now) (at-picked .picked .given .0 .0 .start) (entry .pre))
 
 returns-2 : tie.Need-returns-2
-unfolding optionsTold refusalNo
-returns-2 c = said-refused optionCounts optionBytes _ _ 3 (options-answer _ _ ∙ ap (byOptions _) (sym (c .before .before .parse-list .ensures) ∙ c .enum-told .given .1))
+unfolding optionsTold
+returns-2 c = said-refused optionCounts optionBytes _ _ 3 (options-bad _ _ _ (c .before .before .parse-list .ensures) (c .enum-told .given .1))
 
 returns-3 : tie.Need-returns-3
-unfolding optionsTold refusalNo
+unfolding optionsTold
 returns-3 c =
+    let at-if1 = c .before .before in
+    let at-seen = at-if1 .before .before in
     said-beyond optionCounts optionBytes _ _ _
-    (options-pick _ _ _ (sym (c .before .before .before .before .before .before .parse-list .ensures) ∙ c .before .before .before .before .seen .given .1) (c .before .before .if1 .left) _ (c .enum-told2 .given .1))
+    (options-pick _ _ _ (sym (at-seen .before .before .parse-list .ensures) ∙ at-seen .seen .given .1) (at-if1 .if1 .left) _ (c .enum-told2 .given .1))
 
 same-length : tie.Need-same-length
 same-length c = search needs
 
 returns-4 : tie.Need-returns-4
-unfolding optionsTold refusalNo
+unfolding optionsTold
 returns-4 c =
-    let a = c .before .before .before .before .before .before .before .before .before .before .before .before .before .before .before .before .before .args in
+    let at-copy-option = c .before .before in
+    let at-picked = at-copy-option .before .before .before .before in
+    let at-if1 = at-picked .before .before in
+    let at-seen = at-if1 .before .before in
+    let at-classes = at-seen .before .before .before .before in
+    let entry = at-classes .before .before .before in
     said-item optionCounts optionBytes _ _ _ _
-    (options-pick _ _ _ (sym (c .before .before .before .before .before .before .before .before .before .before .before .before .parse-list .ensures) ∙ c .before .before .before .before .before .before .before .before .before .before .seen .given .1) (c .before .before .before .before .before .before .before .before .if1 .left) _ (c .before .before .before .before .before .before .picked .given .1))
-    (ap optionTold (c .before .before .copy-option .ensures .0) ∙ option-told _)
-    (omega (arith, option-short (a .text .now) (c .before .before .before .before .before .before .picked .given .0 .0 .start), c .before .before .before .before .before .before .before .before .before .before .before .before .before .before .before .before .before .pre))
-    (c .before .before .copy-option .ensures .1)
+    (options-pick _ _ _ (sym (at-seen .before .before .parse-list .ensures) ∙ at-seen .seen .given .1) (at-if1 .if1 .left) _ (at-picked .picked .given .1))
+    (ap optionTold (at-copy-option .copy-option .ensures .0) ∙ option-told _)
+    (omega (arith, option-short (entry .args .text .now) (at-picked .picked .given .0 .0 .start), entry .pre))
+    (at-copy-option .copy-option .ensures .1)
 
 pub options-in-spec : {M : Type 1} → statement M
 options-in-spec =

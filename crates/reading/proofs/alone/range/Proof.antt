@@ -1,18 +1,17 @@
 -- `alone::range` meets its contract.
 -- Assumes nothing.
-use mathlib.Core.Path.{_∙_, sym}
-use borrow.Author.Tests.{le-leb, lt-leb}
-use Rattle.reading.specs.Alone.{rangeTold, rangeAlone, refusalNo}
+use mathlib.Core.Path.{_∙_, sym, ap}
+use Rattle.reading.specs.Alone.{Ranged, rangeTold, rangeAnswer, rangeAlone}
+use Rattle.reading.specs.Checks.{checkFor-good, checkFor-bad}
 use borrow.Author.Needs.{needs}
 use Rattle.reading.proofs.alone.range.Statement.{statement}
 use Rattle.reading.proofs.alone.range.Tie as tie
 
-returns : tie.Need-returns
-unfolding rangeTold rangeAlone refusalNo
-returns c = rw (lt-leb _ _ (c .if1 .taken))
+check-for-requires : tie.Need-check-for-requires
+check-for-requires c κs = search needs
 
-is-utf8-requires : tie.Need-is-utf8-requires
-is-utf8-requires c κs = search needs
+enum-told : tie.Need-enum-told
+enum-told c = search needs
 
 classes-requires : tie.Need-classes-requires
 classes-requires c κs = search needs
@@ -23,25 +22,34 @@ parse-whole-range-requires c κs = search needs
 range-reply-requires : tie.Need-range-reply-requires
 range-reply-requires c κs = search needs
 
-returns-2 : tie.Need-returns-2
-unfolding rangeTold rangeAlone refusalNo
-returns-2 c =
-    let at-if2 = c .before .before .before .before in
-    rw (le-leb _ _ (at-if2 .before .before .if1 .left), sym (at-if2 .before .is-utf8 .ensures) ∙ at-if2 .if2 .taken, ← c .before .parse-whole-range .ensures)
-    (c .range-reply .ensures)
+enum-known-x : tie.Need-enum-known-x
+enum-known-x c = search needs
 
-returns-3 : tie.Need-returns-3
-unfolding rangeTold rangeAlone refusalNo
-returns-3 c = rw (le-leb _ _ (c .before .before .if1 .left), sym (c .before .is-utf8 .ensures) ∙ c .if2 .left)
+returns : tie.Need-returns
+unfolding rangeAlone
+returns c =
+    let arm = c .before .before .before .before in
+    let test = arm .before .before in
+    let s = test .before .before .args .text .now in
+    let good = checkFor-good 0 s 0 (sym (test .check-for .ensures) ∙ arm .enum-told .given .1) Ranged.refused _ in
+    c .range-reply .ensures ∙ ap rangeAnswer (c .before .parse-whole-range .ensures) ∙ sym good
+
+returns-2 : tie.Need-returns-2
+unfolding rangeTold rangeAlone
+returns-2 c =
+    let test = c .before .before .before in
+    let s = test .before .before .args .text .now in
+    sym (checkFor-bad 0 s 0 _ (sym (test .check-for .ensures) ∙ c .before .x .given .1) Ranged.refused _)
 
 pub range-spec : {M : Type 1} → statement M
 range-spec =
     tie.close
     (tie.spec
-    returns
-    is-utf8-requires
+    check-for-requires
+    enum-told
     classes-requires
     parse-whole-range-requires
     range-reply-requires
-    returns-2
-    returns-3)
+    enum-known-x
+    returns
+    returns-2)

@@ -3,7 +3,7 @@
 use native.Mathlib.Omega.{arith}
 use lib.ListN.{length}
 use Rattle.lists.specs.ListLaws.{text-length}
-use Rattle.reading.specs.Alone.{stringsTold, refusalNo}
+use Rattle.reading.specs.Alone.{stringsTold}
 use Rattle.reading.specs.Checks.{said-refused, said-beyond, said-item}
 use Rattle.reading.specs.AloneLaws.{item-room, list-bad, list-pick}
 use borrow.Author.Needs.{needs}
@@ -37,11 +37,11 @@ copy-item-requires c κs =
     (search needs, item-room (entry .args .text .now) (entry .args .store .now) (at-picked .picked .given .0 .0 .start) (entry .pre))
 
 returns : tie.Need-returns
-unfolding stringsTold refusalNo
+unfolding stringsTold
 returns c = said-refused length (λ t. t) _ _ 3 (list-bad _ _ _ _ (c .before .before .parse-list .ensures) (c .enum-told .given .1))
 
 returns-2 : tie.Need-returns-2
-unfolding stringsTold refusalNo
+unfolding stringsTold
 returns-2 c =
     let at-seen = c .before .before .before in
     said-beyond length (λ t. t) _ _ _ (list-pick _ _ _ _ (at-seen .before .before .parse-list .ensures) _ _ (at-seen .seen .given .1) (c .enum-told2 .given .1))
@@ -50,7 +50,7 @@ same-length : tie.Need-same-length
 same-length c = search needs
 
 returns-3 : tie.Need-returns-3
-unfolding stringsTold refusalNo
+unfolding stringsTold
 returns-3 c =
     let at-copy-item = c .before .before in
     let p = at-copy-item .copy-item .ensures in

@@ -6,12 +6,12 @@ use borrow.Author.Needs.{needs}
 use Rattle.run.proofs.reply.end_refused.Statement.{statement}
 use Rattle.run.proofs.reply.end_refused.Tie as tie
 
-error-number-requires : tie.Need-error-number-requires
-error-number-requires c κs = search needs
+number-requires : tie.Need-number-requires
+number-requires c κs = search needs
 
 returns : tie.Need-returns
 unfolding reply outNo outBytes
-returns c = rw (c .error-number .ensures)
+returns c = rw (c .number .ensures)
 
 pub end-refused-spec : {M : Type 1} → statement M
-end-refused-spec = tie.close (tie.spec error-number-requires returns)
+end-refused-spec = tie.close (tie.spec number-requires returns)

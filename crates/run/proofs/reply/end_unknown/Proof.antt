@@ -20,17 +20,22 @@ put-name-requires c κs =
     let p = c .before .before .before .before in
     rw (c .part .ensures) (named-room _ (length (p .args .line .now)) (part-short (p .args .line .now) (p .args .a) (p .args .e)) (omega arith) (omega (arith, p .pre)))
 
+number-requires : tie.Need-number-requires
+number-requires c κs = search needs
+
 same-length : tie.Need-same-length
 same-length c = search needs
 
 returns : tie.Need-returns
 unfolding outNo outBytes
 returns c =
-    let p = c .before .before .before .before .before .before .before in
-    let v = partOf (p .args .line .now) (p .args .a) (p .args .e) in
-    let h = rw (c .before .before .before .part .ensures) at (c .before .before .put-name .ensures) in
-    let f = named-room {s = p .args .store .now} {at = 0} v (length (p .args .line .now)) (part-short (p .args .line .now) (p .args .a) (p .args .e)) (omega arith) (omega (arith, p .pre)) in
-    (end-answer (Out.unknown v) _ h, (end-store (Out.unknown v) h (omega (arith, h .place, f .fits)), put-length h))
+    let named = c .before .before .before in
+    let p = named .before .before .before .before .before in
+    let line = p .args .line .now in
+    let v = partOf line (p .args .a) (p .args .e) in
+    let h = rw (named .before .part .ensures) at (named .put-name .ensures) in
+    let f = named-room {s = p .args .store .now} {at = 0} v (length line) (part-short line (p .args .a) (p .args .e)) (omega arith) (omega (arith, p .pre)) in
+    rw (c .number .ensures) (end-answer (Out.unknown v) _ h, (end-store (Out.unknown v) h (omega (arith, h .place, f .fits)), put-length h))
 
 pub end-unknown-spec : {M : Type 1} → statement M
-end-unknown-spec = tie.close (tie.spec part-requires put-name-requires same-length returns)
+end-unknown-spec = tie.close (tie.spec part-requires put-name-requires number-requires same-length returns)

@@ -2,14 +2,13 @@
 -- store is as it was.
 -- Assumes nothing.
 use mathlib.Core.Path.{_≡_, refl, sym, _∙_, ap}
-use mathlib.Core.List.{_++_}
 use Prim.Native.Nat.{_+_, _-_, _^_, _<_}
 use native.Mathlib.Omega.{arith}
 use lib.ListN.{length}
 use Rattle.scan.specs.Bytes.{isText}
 use Rattle.scan.specs.Scan.{runAt}
 use Rattle.ranges.specs.Bounds.{In}
-use Rattle.words.specs.Words.{shipped}
+use Rattle.words.specs.Words.{tableWith}
 use Rattle.aliases.specs.Rows.{rowsOf}
 use Rattle.commands.specs.Run.{decide as decideOf, change}
 use Rattle.run.specs.ReplyLaws.{ended, refused-ended}
@@ -19,7 +18,7 @@ use Rattle.run.proofs.run.run.Statement.{statement}
 use Rattle.run.proofs.run.run.Tie as tie
 
 abbrev Inv-loop : tie.InvT-loop
-Inv-loop line added store₀ classes x₀ n₀ from₀ to₀ stop₀ store x n from to stop = (store ≡ store₀) × Held (rowsOf added ++ shipped) line x n from to stop
+Inv-loop line added store₀ classes x₀ n₀ from₀ to₀ stop₀ store x n from to stop = (store ≡ store₀) × Held (tableWith (rowsOf added)) line x n from to stop
 
 abbrev μ-loop : tie.MeasureT-loop
 μ-loop line added store₀ classes x₀ n₀ from₀ to₀ stop₀ store x n from to stop = to - from
@@ -136,7 +135,7 @@ enum-known-ch c = search needs
 changed-requires : tie.Need-changed-requires Inv-loop μ-loop
 changed-requires c κs = search needs
 
-again : (c : tie.After-changed Inv-loop μ-loop) → Held (rowsOf (c .before .before .before .before .before .before .before .before .before .before .before .before .before .before .args .added .now) ++ shipped) (c .before .before .before .before .before .before .before .before .before .before .before .before .before .before .args .line .now) (change (c .before .before .ch .given .0 .0) (c .before .before .before .before .before .before .loop .x)) (c .before .before .before .before .before .before .loop .n + 1) (c .before .before .before .before .before .before .loop .from + c .before .before .ch .given .0 .1 .0) (c .before .before .before .before .before .before .loop .from + c .before .before .ch .given .0 .1 .1 .0) (c .before .before .ch .given .0 .1 .1 .0 - c .before .before .ch .given .0 .1 .0)
+again : (c : tie.After-changed Inv-loop μ-loop) → Held (tableWith (rowsOf (c .before .before .before .before .before .before .before .before .before .before .before .before .before .before .args .added .now))) (c .before .before .before .before .before .before .before .before .before .before .before .before .before .before .args .line .now) (change (c .before .before .ch .given .0 .0) (c .before .before .before .before .before .before .loop .x)) (c .before .before .before .before .before .before .loop .n + 1) (c .before .before .before .before .before .before .loop .from + c .before .before .ch .given .0 .1 .0) (c .before .before .before .before .before .before .loop .from + c .before .before .ch .given .0 .1 .1 .0) (c .before .before .ch .given .0 .1 .1 .0 - c .before .before .ch .given .0 .1 .0)
 again c = held-again _ _ _ _ _ _ _ (c .before .before .before .before .before .before .loop .inv .1) _ _ _ (sym (c .before .before .before .before .decide .ensures ∙ ap (decideOf _) (c .before .before .before .before .before .part2 .ensures)) ∙ c .before .before .ch .given .1)
 
 add-to : tie.Need-add-to Inv-loop μ-loop

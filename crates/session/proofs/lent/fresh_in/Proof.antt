@@ -1,6 +1,6 @@
 -- `lent::fresh_in` meets its contract.
 -- Assumes nothing.
-use mathlib.Core.Path.{_∙_, ap}
+use mathlib.Core.Path.{_∙_, sym, ap}
 use native.Mathlib.Omega.{arith}
 use lib.Seq.{sets}
 use borrow.Author.Tests.{eq-eqb, ne-eqb}
@@ -8,12 +8,18 @@ use Rattle.store.specs.Splice.{put-length}
 use Rattle.aliases.specs.Rows.{rowsBytes}
 use Rattle.session.specs.Layout.{two, remembering, aliasing, written}
 use Rattle.session.specs.Lent.{freshNo, freshBytes}
+use borrow.Author.Needs.{needs}
 use Rattle.session.proofs.lent.fresh_in.Statement.{statement}
 use Rattle.session.proofs.lent.fresh_in.Tie as tie
 
+number-requires : tie.Need-number-requires
+number-requires c κs = search needs
+
 returns : tie.Need-returns
 unfolding freshNo freshBytes
-returns c = (rw (ne-eqb _ _ (c .if1 .taken)), rw (ne-eqb _ _ (c .if1 .taken)))
+returns c =
+    let test = c .before in
+    (c .number .ensures ∙ sym (rw (ne-eqb _ _ (test .if1 .taken))), rw (ne-eqb _ _ (test .if1 .taken)))
 
 put-two-requires : tie.Need-put-two-requires
 put-two-requires c κs = (omega arith, record { fits = omega (arith, c .before .if1 .left) })
@@ -33,4 +39,11 @@ returns-2 c = (
 
 pub fresh-in-spec : {M : Type 1} → statement M
 fresh-in-spec =
-    tie.close (tie.spec returns put-two-requires put-two-requires-2 same-length returns-2)
+    tie.close
+    (tie.spec
+    number-requires
+    returns
+    put-two-requires
+    put-two-requires-2
+    same-length
+    returns-2)

@@ -5,7 +5,7 @@ use native.Mathlib.Omega.{arith}
 use lib.ListN.{length}
 use borrow.Author.Tests.{le-leb, lt-leb, not-true, not-false}
 use Rattle.session.specs.Layout.{lineOf}
-use Rattle.session.specs.Lent.{readBackNo, readBackCount, readBackStore}
+use Rattle.session.specs.LentLaws.{read-back-99, read-back-short, read-back-good}
 use Rattle.run.specs.ReplyLaws.{front}
 use borrow.Author.Needs.{needs}
 use Rattle.session.proofs.lent.remembered_in.Statement.{statement}
@@ -17,16 +17,28 @@ classes-requires c κs = search needs
 sound-requires : tie.Need-sound-requires
 sound-requires c κs = search needs
 
+number-requires : tie.Need-number-requires
+number-requires c κs = search needs
+
 returns : tie.Need-returns
-unfolding readBackNo readBackCount readBackStore
-returns c = (rw (sym (c .before .sound .ensures) ∙ not-true _ (c .if1 .taken)), (rw (sym (c .before .sound .ensures) ∙ not-true _ (c .if1 .taken)), rw (sym (c .before .sound .ensures) ∙ not-true _ (c .if1 .taken))))
+returns c =
+    let told = c .before .before in
+    let a = told .before .before .before .before .before .args in
+    rw (c .number .ensures) (read-back-99 (a .b .now) (a .store .now) (sym (told .sound .ensures) ∙ not-true _ (c .before .if1 .taken)))
 
 remembered-requires : tie.Need-remembered-requires
 remembered-requires c κs = search needs
 
+number-requires-2 : tie.Need-number-requires-2
+number-requires-2 c κs = search needs
+
 returns-2 : tie.Need-returns-2
-unfolding readBackNo readBackCount readBackStore
-returns-2 c = (rw (sym (c .before .before .before .sound .ensures) ∙ not-false _ (c .before .before .if1 .left), lt-leb _ _ (rw (c .before .remembered .ensures) at (c .if2 .taken))), (rw (sym (c .before .before .before .sound .ensures) ∙ not-false _ (c .before .before .if1 .left), lt-leb _ _ (rw (c .before .remembered .ensures) at (c .if2 .taken))), rw (sym (c .before .before .before .sound .ensures) ∙ not-false _ (c .before .before .if1 .left), lt-leb _ _ (rw (c .before .remembered .ensures) at (c .if2 .taken)))))
+returns-2 c =
+    let test = c .before .before .before in
+    let told = test .before in
+    let a = told .before .before .before .before .before .args in
+    let taken = sym (told .sound .ensures) ∙ not-false _ (test .if1 .left) in
+    rw (c .number2 .ensures) (read-back-short (a .b .now) (a .store .now) taken (lt-leb _ _ (rw (c .before .before .remembered .ensures) at (c .before .if2 .taken))))
 
 put-bytes-requires : tie.Need-put-bytes-requires
 put-bytes-requires c κs = record { fits = omega (arith, c .before .if2 .left) }
@@ -35,13 +47,18 @@ same-length : tie.Need-same-length
 same-length c = search needs
 
 returns-3 : tie.Need-returns-3
-unfolding readBackNo readBackCount readBackStore
 returns-3 c =
-    let s = sym (c .before .before .before .before .before .before .before .sound .ensures) ∙ not-false _ (c .before .before .before .before .before .before .if1 .left) in
-    let k = le-leb _ _ (rw (c .before .before .before .before .before .remembered .ensures) at (c .before .before .before .before .if2 .left)) in
-    let p = rw (c .before .before .before .before .before .remembered .ensures) at (c .before .before .put-bytes .ensures) in
-    let n : c .before .before .put-bytes .result ≡ length (lineOf (c .before .before .before .before .before .before .before .before .before .before .before .before .args .b .now)) = omega (arith, p .place) in
-    (rw (s, k), (rw (s, k, n), rw (s, k) (front p (omega (arith, p .place, rw (c .before .before .before .before .before .remembered .ensures) at (c .before .before .before .before .if2 .left))))))
+    let put = c .before .before in
+    let room = put .before .before in
+    let line = room .before in
+    let test = line .before in
+    let told = test .before in
+    let a = told .before .before .before .before .before .args in
+    let fits = rw (line .remembered .ensures) at (room .if2 .left) in
+    let p = rw (line .remembered .ensures) at (put .put-bytes .ensures) in
+    let n : put .put-bytes .result ≡ length (lineOf (a .b .now)) = omega (arith, p .place) in
+    let x = read-back-good (a .b .now) (a .store .now) (sym (told .sound .ensures) ∙ not-false _ (test .if1 .left)) (le-leb _ _ fits) in
+    (x .0, (n ∙ x .1 .0, front p (omega (arith, p .place, fits)) ∙ x .1 .1))
 
 pub remembered-in-spec : {M : Type 1} → statement M
 remembered-in-spec =
@@ -49,8 +66,10 @@ remembered-in-spec =
     (tie.spec
     classes-requires
     sound-requires
+    number-requires
     returns
     remembered-requires
+    number-requires-2
     returns-2
     put-bytes-requires
     same-length

@@ -1,7 +1,9 @@
 -- `lent::run_in` meets its contract.
 -- Assumes nothing.
 use mathlib.Core.Path.{_∙_, ap}
+use native.Mathlib.Omega.{arith}
 use lib.ListN.{length}
+use Rattle.reading.specs.Checks.{lineRoom-long}
 use Rattle.session.specs.Layout.{sessionOf}
 use Rattle.session.specs.SoundLaws.{remember-size}
 use borrow.Author.Needs.{needs}
@@ -12,7 +14,9 @@ area-requires : tie.Need-area-requires
 area-requires c κs = search needs
 
 run-requires : tie.Need-run-requires
-run-requires c κs = (c .before .before .before .before .before .before .pre .0, c .before .before .before .before .before .before .pre .1 .1 .1)
+run-requires c κs =
+    let entry = c .before .before .before .before .before .before in
+    (entry .pre .0, omega (arith, lineRoom-long (entry .args .line .now), entry .pre .1 .1 .1))
 
 remember-requires : tie.Need-remember-requires
 remember-requires c κs = (c .before .before .before .before .before .before .before .before .before .before .pre .1 .1 .0, c .before .before .before .before .before .before .before .before .before .before .pre .1 .0)

@@ -1,45 +1,50 @@
 -- `sheet::tally::put_all_by` meets its contract.
 -- Assumes nothing.
-use Rattle.wording.specs.Behind.{Behind}
-use lib.ListN.{length}
-use Prim.Native.Nat.{_-_}
+use Prim.Native.Nat.{_-_, _≤_}
+use native.Mathlib.Omega.{arith}
 use borrow.Author.Needs.{needs}
+use Rattle.wording.specs.Behind.{Behind}
 use Rattle.wording.specs.BehindLaws.{behind-then, behind-none}
 use Rattle.sheet.proofs.tally.put_all_by.Statement.{statement}
 use Rattle.sheet.proofs.tally.put_all_by.Tie as tie
 
 abbrev Inv-loop : tie.InvT-loop
-Inv-loop out₀ at by to₀ i₀ out to i = Behind out₀ out at to
+Inv-loop out₀ at by to₀ n₀ out to n = Behind out₀ out at to × (n ≤ 100)
 
 abbrev μ-loop : tie.MeasureT-loop
-μ-loop out₀ at by to₀ i₀ out to i = length by - i
+μ-loop out₀ at by to₀ n₀ out to n = 100 - n
 
 loop-holds : tie.Need-loop-holds Inv-loop μ-loop
-loop-holds c = search (needs, behind-none)
+loop-holds c = (behind-none _ (search needs), omega arith)
 
-mul-put-by : tie.Need-mul-put-by Inv-loop μ-loop
-mul-put-by c = search needs
+put-by-number-requires : tie.Need-put-by-number-requires Inv-loop μ-loop
+put-by-number-requires c κs = search needs
 
-shared-slice-read-put-by : tie.Need-shared-slice-read-put-by Inv-loop μ-loop
-shared-slice-read-put-by c = search needs
-
-put-by-requires : tie.Need-put-by-requires Inv-loop μ-loop
-put-by-requires c κs = search needs
-
-add-i : tie.Need-add-i Inv-loop μ-loop
-add-i c = search needs
+add-n : tie.Need-add-n Inv-loop μ-loop
+add-n c = search needs
 
 loop-less : tie.Need-loop-less Inv-loop μ-loop
 loop-less c = search needs
 
 loop-again : tie.Need-loop-again Inv-loop μ-loop
-loop-again c = search (needs, behind-then)
+loop-again c =
+    let l = c .before .before .before .before .before .loop in
+    (behind-then (l .inv .0) (c .before .before .put-by-number .ensures), omega arith)
+
+element-copy-out-put-others : tie.Need-element-copy-out-put-others Inv-loop μ-loop
+element-copy-out-put-others c = search needs
+
+put-others-requires : tie.Need-put-others-requires Inv-loop μ-loop
+put-others-requires c κs = search needs
 
 same-length : tie.Need-same-length Inv-loop μ-loop
 same-length c = search needs
 
 returns : tie.Need-returns Inv-loop μ-loop
-returns c = search (needs, behind-then)
+returns c =
+    let put = c .before .before in
+    let l = put .before .before .before .before .loop in
+    behind-then (l .inv .0) (put .put-others .ensures)
 
 pub put-all-by-spec : {M : Type 1} → statement M
 put-all-by-spec =
@@ -48,11 +53,11 @@ put-all-by-spec =
     Inv-loop
     μ-loop
     loop-holds
-    mul-put-by
-    shared-slice-read-put-by
-    put-by-requires
-    add-i
+    put-by-number-requires
+    add-n
     loop-less
     loop-again
+    element-copy-out-put-others
+    put-others-requires
     same-length
     returns)

@@ -14,9 +14,6 @@ slice-aggregate-put-count c = search needs
 put-count-requires : tie.Need-put-count-requires
 put-count-requires c κs = search needs
 
-slice-aggregate-put-end : tie.Need-slice-aggregate-put-end
-slice-aggregate-put-end c = search needs
-
 put-end-requires : tie.Need-put-end-requires
 put-end-requires c κs = search needs
 
@@ -33,7 +30,6 @@ put-tally-spec =
     put-lines-requires
     slice-aggregate-put-count
     put-count-requires
-    slice-aggregate-put-end
     put-end-requires
     same-length
     returns)

@@ -5,6 +5,9 @@ use borrow.Author.Needs.{needs}
 use Rattle.wording.proofs.refusal.put_refused.Statement.{statement}
 use Rattle.wording.proofs.refusal.put_refused.Tie as tie
 
+number-requires : tie.Need-number-requires
+number-requires c κs = search needs
+
 name-of-requires : tie.Need-name-of-requires
 name-of-requires c κs = search needs
 
@@ -45,6 +48,7 @@ pub put-refused-spec : {M : Type 1} → statement M
 put-refused-spec =
     tie.close
     (tie.spec
+    number-requires
     name-of-requires
     put-refused-word-requires
     same-length
