@@ -73,7 +73,8 @@ module _ (s : List ℕ) (bytes : (i : ℕ) → byteAt s i < 256) where
   number-less zero a b x h = absurd (omega arith)
   number-less (suc k) a b x h = go (decLt (byteAt s a) (byteAt s b)) (decLt (byteAt s b) (byteAt s a)) (number-less k (a + 1) (b + 1) (x * 256 + byteAt s a))
     where
-      go : Dec (byteAt s a < byteAt s b) → Dec (byteAt s b < byteAt s a) → (numberAt (x * 256 + byteAt s a) s (a + 1) k < numberAt (x * 256 + byteAt s a) s (b + 1) k → Earlier s (a + 1) (b + 1) k) → Earlier s a b (suc k)
+      go : Dec (byteAt s a < byteAt s b) → Dec (byteAt s b < byteAt s a) →
+          (numberAt (x * 256 + byteAt s a) s (a + 1) k < numberAt (x * 256 + byteAt s a) s (b + 1) k → Earlier s (a + 1) (b + 1) k) → Earlier s a b (suc k)
       go (yes p) d ih = earlier-one s a b (suc k) (omega arith) p
       go (no p) (yes q) ih = absurd (omega (arith, h, over k (b + 1) (a + 1) (x * 256 + byteAt s b) (x * 256 + byteAt s a) (omega arith)))
       go (no p) (no q) ih =
@@ -87,7 +88,8 @@ module _ (s : List ℕ) (bytes : (i : ℕ) → byteAt s i < 256) where
   number-same zero a b x h = λ q i. absurd (omega arith)
   number-same (suc k) a b x h = go (decLt (byteAt s a) (byteAt s b)) (decLt (byteAt s b) (byteAt s a)) (number-same k (a + 1) (b + 1) (x * 256 + byteAt s a))
     where
-      go : Dec (byteAt s a < byteAt s b) → Dec (byteAt s b < byteAt s a) → (numberAt (x * 256 + byteAt s a) s (a + 1) k ≡ numberAt (x * 256 + byteAt s a) s (b + 1) k → Alike s (a + 1) (b + 1) k) → Alike s a b (suc k)
+      go : Dec (byteAt s a < byteAt s b) → Dec (byteAt s b < byteAt s a) →
+          (numberAt (x * 256 + byteAt s a) s (a + 1) k ≡ numberAt (x * 256 + byteAt s a) s (b + 1) k → Alike s (a + 1) (b + 1) k) → Alike s a b (suc k)
       go (yes p) d ih = absurd (omega (arith, h, over k (a + 1) (b + 1) (x * 256 + byteAt s a) (x * 256 + byteAt s b) (omega arith)))
       go (no p) (yes q) ih = absurd (omega (arith, h, over k (b + 1) (a + 1) (x * 256 + byteAt s b) (x * 256 + byteAt s a) (omega arith)))
       go (no p) (no q) ih =
@@ -116,8 +118,10 @@ module _ (s : List ℕ) (bytes : (i : ℕ) → byteAt s i < 256) where
   number-short n a b l h =
       let e : n + (8 - n) ≡ 8 = omega arith in
       let f : 8 * (8 - n) ≡ 64 - 8 * n = omega arith in
-      let u : numberAt 0 s a 8 / 2 ^ (64 - 8 * n) ≡ numberAt 0 s a n = ap (λ (k : ℕ). numberAt 0 s a 8 / 2 ^ k) (sym f) ∙ ap (λ (k : ℕ). numberAt 0 s a k / 2 ^ (8 * (8 - n))) (sym e) ∙ number-front n (8 - n) a 0 in
-      let v : numberAt 0 s b 8 / 2 ^ (64 - 8 * n) ≡ numberAt 0 s b n = ap (λ (k : ℕ). numberAt 0 s b 8 / 2 ^ k) (sym f) ∙ ap (λ (k : ℕ). numberAt 0 s b k / 2 ^ (8 * (8 - n))) (sym e) ∙ number-front n (8 - n) b 0 in
+      let u : numberAt 0 s a 8 / 2 ^ (64 - 8 * n) ≡ numberAt 0 s a n = ap (λ (k : ℕ). numberAt 0 s a 8 / 2 ^ k) (sym f)
+      ∙ ap (λ (k : ℕ). numberAt 0 s a k / 2 ^ (8 * (8 - n))) (sym e) ∙ number-front n (8 - n) a 0 in
+      let v : numberAt 0 s b 8 / 2 ^ (64 - 8 * n) ≡ numberAt 0 s b n = ap (λ (k : ℕ). numberAt 0 s b 8 / 2 ^ k) (sym f)
+      ∙ ap (λ (k : ℕ). numberAt 0 s b k / 2 ^ (8 * (8 - n))) (sym e) ∙ number-front n (8 - n) b 0 in
       number-less n a b 0 (rw (u, v) at h)
 
   -- behind eight bytes that are alike: the next eight
@@ -156,6 +160,7 @@ earlier-order s a e b n l h = order-start _ _ ∙ go (h .place) 0 (omega arith)
       where
         step : Dec (i < length (partOf s a e)) → orderAt (partOf s a e) (partOf s b (b + n)) (i + 1) ≡ Order.Less → orderAt (partOf s a e) (partOf s b (b + n)) i ≡ Order.Less
         step (yes p) ih =
-            let u : byteAt (partOf s a e) i ≡ byteAt (partOf s b (b + n)) i = part-byte s a e i (omega (arith, short)) ∙ h .alike i (omega arith) ∙ sym (part-byte s b (b + n) i (omega (arith, h .inside))) in
+            let u : byteAt (partOf s a e) i ≡ byteAt (partOf s b (b + n)) i = part-byte s a e i (omega (arith, short)) ∙ h .alike i (omega arith)
+            ∙ sym (part-byte s b (b + n) i (omega (arith, h .inside))) in
             order-on _ _ i p (omega (arith, long, h .inside)) (omega arith) (omega arith) ∙ ih
         step (no p) ih = order-shorter _ _ i (omega arith) (omega (arith, long, h .inside))

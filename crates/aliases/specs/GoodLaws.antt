@@ -46,7 +46,8 @@ module _ (before s : List ℕ) (i : ℕ) where
   pub good-past : i < length s → goodRow before (byteAt s i) (byteAt s (i + 1)) (partOf s (i + 2) (i + 2 + byteAt s i)) ≡ false → goodAt before s i ≡ false
   good-past h e = good-step before s i h ∙ rw e
 
-  pub good-here : i < length s → goodRow before (byteAt s i) (byteAt s (i + 1)) (partOf s (i + 2) (i + 2 + byteAt s i)) ≡ true → goodAt before s i ≡ goodAt (partOf s (i + 2) (i + 2 + byteAt s i)) s (i + 2 + byteAt s i)
+  pub good-here : i < length s → goodRow before (byteAt s i) (byteAt s (i + 1)) (partOf s (i + 2) (i + 2 + byteAt s i)) ≡ true →
+      goodAt before s i ≡ goodAt (partOf s (i + 2) (i + 2 + byteAt s i)) s (i + 2 + byteAt s i)
   good-here h e = good-step before s i h ∙ rw e
 
 -- the same row, told in other words

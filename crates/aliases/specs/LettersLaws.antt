@@ -39,7 +39,8 @@ pub letters-start : (s : List ℕ) → lettersOf s ≡ lettersOf (drop 0 s)
 letters-start s = refl
 
 -- c letters among i bytes from a on, and one byte more
-pub letters-on : (s : List ℕ) (a i c : ℕ) → a + i < length s → lettersOf (drop a s) ≡ c + lettersOf (drop (a + i) s) → lettersOf (drop a s) ≡ c + letterOf (byteAt s (a + i)) + lettersOf (drop (a + (i + 1)) s)
+pub letters-on : (s : List ℕ) (a i c : ℕ) → a + i < length s → lettersOf (drop a s) ≡ c + lettersOf (drop (a + i) s) →
+    lettersOf (drop a s) ≡ c + letterOf (byteAt s (a + i)) + lettersOf (drop (a + (i + 1)) s)
 letters-on s a i c h e =
     let n : a + i + 1 ≡ a + (i + 1) = omega arith in
     omega (arith, letters-step s (a + i) h, ap (λ (k : ℕ). lettersOf (drop k s)) n)

@@ -59,7 +59,8 @@ order-flip [] (y ∷ b) h = let z : _≡_ {A = ℕ} 0 1 = cc in absurd (omega ar
 order-flip (x ∷ a) [] h = refl
 order-flip (x ∷ a) (y ∷ b) h = go (ltb x y) (ltb y x) h (order-flip a b)
   where
-    go : (p q : Bool) → cond p Order.Less (cond q Order.Greater (orderOf a b)) ≡ Order.Greater → (orderOf a b ≡ Order.Greater → orderOf b a ≡ Order.Less) → cond q Order.Less (cond p Order.Greater (orderOf b a)) ≡ Order.Less
+    go : (p q : Bool) → cond p Order.Less (cond q Order.Greater (orderOf a b)) ≡ Order.Greater → (orderOf a b ≡ Order.Greater → orderOf b a ≡ Order.Less) →
+        cond q Order.Less (cond p Order.Greater (orderOf b a)) ≡ Order.Less
     go true q e ih = let z : _≡_ {A = ℕ} 0 1 = cc in absurd (omega arith)
     go false true e ih = refl
     go false false e ih = ih e
@@ -71,7 +72,8 @@ order-back [] (y ∷ b) h = refl
 order-back (x ∷ a) [] h = let z : _≡_ {A = ℕ} 0 1 = cc in absurd (omega arith)
 order-back (x ∷ a) (y ∷ b) h = go (ltb x y) (ltb y x) refl refl h (order-back a b)
   where
-    go : (p q : Bool) → ltb x y ≡ p → ltb y x ≡ q → cond p Order.Less (cond q Order.Greater (orderOf a b)) ≡ Order.Less → (orderOf a b ≡ Order.Less → orderOf b a ≡ Order.Greater) → cond q Order.Less (cond p Order.Greater (orderOf b a)) ≡ Order.Greater
+    go : (p q : Bool) → ltb x y ≡ p → ltb y x ≡ q → cond p Order.Less (cond q Order.Greater (orderOf a b)) ≡ Order.Less → (orderOf a b ≡ Order.Less → orderOf b a ≡ Order.Greater) →
+        cond q Order.Less (cond p Order.Greater (orderOf b a)) ≡ Order.Greater
     go true true e f k ih = absurd (omega (arith, ltb-true x y e, ltb-true y x f))
     go true false e f k ih = refl
     go false true e f k ih = let z : _≡_ {A = ℕ} 0 1 = cc in absurd (omega arith)

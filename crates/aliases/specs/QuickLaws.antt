@@ -80,7 +80,8 @@ module _ (s : List ℕ) (from i k : ℕ) (p : Passed s from i k) (b : Bounded s 
       }
 
 -- the same of a row that is known to be n bytes long
-pub passed-as : (s : List ℕ) (from i k n : ℕ) → Passed s from i k → byteAt s i ≡ n → i + 2 + n ≤ length s → 1 ≤ n → n ≤ wordLimit → byteAt s (i + 1) ≤ lastCommand → Earlier s from (i + 2) n → Passed s (i + 2) (i + 2 + n) (k + 1)
+pub passed-as : (s : List ℕ) (from i k n : ℕ) → Passed s from i k → byteAt s i ≡ n → i + 2 + n ≤ length s → 1 ≤ n → n ≤ wordLimit → byteAt s (i + 1) ≤ lastCommand →
+    Earlier s from (i + 2) n → Passed s (i + 2) (i + 2 + n) (k + 1)
 passed-as s from i k n p e h l m c a =
     let b : Bounded s from i = record { here = omega arith; some = omega arith; few = omega arith; command = c; after = rw e a } in
     rw (sym e) (passed-on s from i k p b)

@@ -103,7 +103,9 @@ module _ (before : List ℕ) (n c : ℕ) (bs : List ℕ) where
   exact-row t x =
       let e : rowsOf (n ∷ c ∷ bs) ≡ row (take n bs) c ∷ rowsOf (drop n bs) =
       rows-cons n (c ∷ bs) ∙ ap (λ v. row (take n bs) c ∷ v) (rows-skip (n + 1) (c ∷ bs) ∙ ap (λ (k : ℕ). rowsFrom 0 (drop k (c ∷ bs))) (add-one n)) in
-      let g : goodRow before (length (take n bs)) c (take n bs) ≡ true = row-good before (length (take n bs)) c (take n bs) (record { its-length = refl; a-command = t .a-command; an-alias = t .an-alias; after = t .after }) in
+      let g : goodRow before (length (take n bs)) c (take n bs) ≡ true =
+      row-good before (length (take n bs)) c (take n bs)
+      (record { its-length = refl; a-command = t .a-command; an-alias = t .an-alias; after = t .after }) in
       record {
         written = ap rowsBytes e ∙ rw (t .its-length, x .written, take-append-drop n bs);
         rows = ap (goodRows before) e ∙ rw g (x .rows);
@@ -172,7 +174,8 @@ module _ (w : List ℕ) (c : ℕ) (an-alias : isAlias w ≡ true) (a-command : c
   new-good : (before : List ℕ) → orderOf before w ≡ Order.Less → goodRow before (length w) c w ≡ true
   new-good before l = row-good before (length w) c w (record { its-length = refl; a-command = a-command; an-alias = an-alias; after = l })
 
-  insert-by : (before : List ℕ) (r : Row) (rs : List Row) (o : Order) → orderOf w (r .word) ≡ o → orderOf before w ≡ Order.Less → goodRow before (length (r .word)) (r .command) (r .word) ≡ true → goodRows (r .word) rs ≡ true →
+  insert-by : (before : List ℕ) (r : Row) (rs : List Row) (o : Order) → orderOf w (r .word) ≡ o → orderOf before w ≡ Order.Less →
+      goodRow before (length (r .word)) (r .command) (r .word) ≡ true → goodRows (r .word) rs ≡ true →
       ((b : List ℕ) → orderOf b w ≡ Order.Less → goodRows b rs ≡ true → goodRows b (insert w c rs) ≡ true) → goodRows before (insertBy w c r rs o) ≡ true
   unfolding goodRows
   insert-by before r rs Order.Less e l g k ih =
@@ -224,7 +227,8 @@ known-after w n before (r ∷ rs) h e =
     let t = row-told before (length (r .word)) (r .command) (r .word) (k .0) in
     go (same w (r .word)) refl t (λ f. known-after w n (r .word) rs (k .1) f) e
   where
-    go : (b : Bool) → same w (r .word) ≡ b → Told before (length (r .word)) (r .command) (r .word) → (lookupIn rs w ≡ Named.Command n → orderOf (r .word) w ≡ Order.Less) → lookupIn (r ∷ rs) w ≡ Named.Command n → orderOf before w ≡ Order.Less
+    go : (b : Bool) → same w (r .word) ≡ b → Told before (length (r .word)) (r .command) (r .word) → (lookupIn rs w ≡ Named.Command n → orderOf (r .word) w ≡ Order.Less) →
+        lookupIn (r ∷ rs) w ≡ Named.Command n → orderOf before w ≡ Order.Less
     go true q t ih f = ap (orderOf before) (same-eq w (r .word) q) ∙ t .after
     go false q t ih f = order-then before (r .word) w (t .after) (ih (sym (lookup-past r rs w q) ∙ f))
 
@@ -235,7 +239,8 @@ known-length w c n before (r ∷ rs) h e =
     let k = both (goodRow before (length (r .word)) (r .command) (r .word)) (goodRows (r .word) rs) h in
     ap length (insert-cons w c r rs) ∙ go (same w (r .word)) refl (known-after w n (r .word) rs (k .1)) (known-length w c n (r .word) rs (k .1)) e
   where
-    go : (b : Bool) → same w (r .word) ≡ b → (lookupIn rs w ≡ Named.Command n → orderOf (r .word) w ≡ Order.Less) → (lookupIn rs w ≡ Named.Command n → length (insert w c rs) ≡ length rs) → lookupIn (r ∷ rs) w ≡ Named.Command n → length (insertBy w c r rs (orderOf w (r .word))) ≡ suc (length rs)
+    go : (b : Bool) → same w (r .word) ≡ b → (lookupIn rs w ≡ Named.Command n → orderOf (r .word) w ≡ Order.Less) →
+        (lookupIn rs w ≡ Named.Command n → length (insert w c rs) ≡ length rs) → lookupIn (r ∷ rs) w ≡ Named.Command n → length (insertBy w c r rs (orderOf w (r .word))) ≡ suc (length rs)
     go true q after ih f =
         let x : orderOf w (r .word) ≡ Order.Same = ap (orderOf w) (sym (same-eq w (r .word) q)) ∙ order-refl w in
         rw x
@@ -267,7 +272,8 @@ lookup-insert w v c [] = by (same v w) refl
     by false q = lookup-past (row w c) [] v q
 lookup-insert w v c (r ∷ rs) = ap (λ t. lookupIn t v) (insert-cons w c r rs) ∙ go (orderOf w (r .word)) refl (same v w) refl (lookup-insert w v c rs)
   where
-    past : (b : Bool) → same v (r .word) ≡ b → orderOf w (r .word) ≡ Order.Greater → lookupIn (insert w c rs) v ≡ cond (same v w) (Named.Command c) (lookupIn rs v) → lookupIn (r ∷ insert w c rs) v ≡ cond (same v w) (Named.Command c) (lookupIn (r ∷ rs) v)
+    past : (b : Bool) → same v (r .word) ≡ b → orderOf w (r .word) ≡ Order.Greater → lookupIn (insert w c rs) v ≡ cond (same v w) (Named.Command c) (lookupIn rs v) →
+        lookupIn (r ∷ insert w c rs) v ≡ cond (same v w) (Named.Command c) (lookupIn (r ∷ rs) v)
     past true q o ih = lookup-here r (insert w c rs) v q ∙ other (same v w) refl
       where
         other : (b : Bool) → same v w ≡ b → Named.Command (r .command) ≡ cond b (Named.Command c) (lookupIn (r ∷ rs) v)
@@ -279,7 +285,8 @@ lookup-insert w v c (r ∷ rs) = ap (λ t. lookupIn t v) (insert-cons w c r rs) 
         other false p = sym (lookup-here r rs v q)
     past false q o ih = lookup-past r (insert w c rs) v q ∙ ih ∙ ap (λ m. cond (same v w) (Named.Command c) m) (sym (lookup-past r rs v q))
 
-    go : (o : Order) → orderOf w (r .word) ≡ o → (b : Bool) → same v w ≡ b → lookupIn (insert w c rs) v ≡ cond (same v w) (Named.Command c) (lookupIn rs v) → lookupIn (insertBy w c r rs o) v ≡ cond (same v w) (Named.Command c) (lookupIn (r ∷ rs) v)
+    go : (o : Order) → orderOf w (r .word) ≡ o → (b : Bool) → same v w ≡ b → lookupIn (insert w c rs) v ≡ cond (same v w) (Named.Command c) (lookupIn rs v) →
+        lookupIn (insertBy w c r rs o) v ≡ cond (same v w) (Named.Command c) (lookupIn (r ∷ rs) v)
     go Order.Less e true q ih = lookup-here (row w c) (r ∷ rs) v q ∙ rw q
     go Order.Less e false q ih = lookup-past (row w c) (r ∷ rs) v q ∙ rw q
     go Order.Same e true q ih = lookup-here (row w c) rs v q ∙ rw q

@@ -65,7 +65,8 @@ unfolding freeFrom freeIn
 free-end used k d e = rw e
 
 -- one more, by what is found of it
-pub picked-as : (p : Picking) (j behind f k w : ℕ) (o : List ℕ) → f ≡ ordersOf behind → k ≡ freeFrom (p .used) 0 (p .rest / f) → w ≡ weightOf k → o ≡ set (p .order) j k → _≡_ {A = Picking} (record { used = bitOr (p .used) w; rest = p .rest % f; order = o }) (pickedOf p j behind)
+pub picked-as : (p : Picking) (j behind f k w : ℕ) (o : List ℕ) → f ≡ ordersOf behind → k ≡ freeFrom (p .used) 0 (p .rest / f) → w ≡ weightOf k → o ≡ set (p .order) j k →
+    _≡_ {A = Picking} (record { used = bitOr (p .used) w; rest = p .rest % f; order = o }) (pickedOf p j behind)
 unfolding pickedOf
 picked-as p j behind f k w o e g h i = rw (i, h, g, e)
 

@@ -85,7 +85,8 @@ offsets-in [] (suc k) i h = record { from = omega arith; to = omega arith }
 offsets-in (b ∷ bs) (suc k) i h = offsets-later i (length bs) (offsetsFrom k (i + 1) bs) (offsets-in bs k (i + 1) (omega arith))
 offsets-in (b ∷ bs) zero i h = go (isSign b) (digitsFrom (i + 1) bs) refl refl (λ k g. offsets-in bs k (i + 1) g)
   where
-    go : (t : Bool) (d : Decimal) → isSign b ≡ t → digitsFrom (i + 1) bs ≡ d → ((k : ℕ) → k ≤ length bs → OffsetsIn (i + 1) (i + 1 + length bs) (offsetsFrom k (i + 1) bs)) → OffsetsIn i (i + suc (length bs)) (offsetsFrom 0 i (b ∷ bs))
+    go : (t : Bool) (d : Decimal) → isSign b ≡ t → digitsFrom (i + 1) bs ≡ d → ((k : ℕ) → k ≤ length bs → OffsetsIn (i + 1) (i + 1 + length bs) (offsetsFrom k (i + 1) bs)) →
+        OffsetsIn i (i + suc (length bs)) (offsetsFrom 0 i (b ∷ bs))
     go false d e f ih = rw (off-stop i b bs e) (record { from = omega arith; to = omega arith })
     go true Decimal.Absent e f ih = rw (off-bare i b bs e f) (offsets-later i (length bs) (offsetsFrom 0 (i + 1) bs) (ih 0 (omega arith)))
     go true (Decimal.Value n j) e f ih = rw (off-value i b bs n j e f) (offsets-later i (length bs) (offsetsFrom (j - (i + 1)) (i + 1) bs) (ih (j - (i + 1)) (value-room i b bs n j f)))
@@ -205,7 +206,10 @@ first-in s i (EndingRead.Found l) h = go (eqb (byteAt s (l .to)) 0x2C) (eqb (byt
     two : (c : ℕ) (p : RangeSearchInit) → 0 < c → byteAt s (l .to) ≡ c → RangeIn i (length s) (double l p (endingAt s (l .to + 1)))
     two c p z q = double-in i (length s) l p (l .to + 1) (endingAt s (l .to + 1)) (omega arith) (endingAt-in s (l .to + 1) (omega (arith, byte-inside s (l .to) c q z)))
 
-    go : (t u v : Bool) → eqb (byteAt s (l .to)) 0x2C ≡ t → eqb (byteAt s (l .to)) 0x3B ≡ u → RangeIn i (length s) (cond t (double l RangeSearchInit.Cursor (endingAt s (l .to + 1))) (cond u (double l RangeSearchInit.Start (endingAt s (l .to + 1))) (cond v RangeRead.Absent (RangeRead.Found (RangeSpec.Single l) (l .to)))))
+    go : (t u v : Bool) → eqb (byteAt s (l .to)) 0x2C ≡ t → eqb (byteAt s (l .to)) 0x3B ≡ u →
+        RangeIn i (length s)
+        (cond t (double l RangeSearchInit.Cursor (endingAt s (l .to + 1)))
+        (cond u (double l RangeSearchInit.Start (endingAt s (l .to + 1))) (cond v RangeRead.Absent (RangeRead.Found (RangeSpec.Single l) (l .to)))))
     go true u v e f = two 0x2C RangeSearchInit.Cursor (omega arith) (eqb-true (byteAt s (l .to)) 0x2C e)
     go false true v e f = two 0x3B RangeSearchInit.Start (omega arith) (eqb-true (byteAt s (l .to)) 0x3B f)
     go false false true e f = tt

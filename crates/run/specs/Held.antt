@@ -34,7 +34,8 @@ pub record Held (table : List Row) (line : List ℕ) (x : CommandContext) (n fro
   pub flat : stop ≡ runAt isText (partOf line from to) 0
   pub same : lineFrom table fresh line ≡ plus table n (runOn table x (partOf line from to))
 
-pub held-start : (table : List Row) (line : List ℕ) (stop : ℕ) → stop ≡ runAt isText (partOf line (runAt isSpace line 0) (length line)) 0 → Held table line fresh 0 (runAt isSpace line 0) (length line) stop
+pub held-start : (table : List Row) (line : List ℕ) (stop : ℕ) → stop ≡ runAt isText (partOf line (runAt isSpace line 0) (length line)) 0 →
+    Held table line fresh 0 (runAt isSpace line 0) (length line) stop
 held-start table line stop e =
     record { order = runAt-within isSpace line 0 (omega arith); inside = omega arith; room = omega arith; flat = e; same = begins table fresh line }
 
@@ -66,7 +67,8 @@ module _ (table : List Row) (line : List ℕ) (x : CommandContext) (n from to st
       ap (λ w. record { out = Out.unknown w; readings = n + 1 }) (sym (part-part line from to a e (i .from) (i .to)))
       ∙ ends table (lineFrom table fresh line) n x (partOf line from to) (Next.Unknown a e) _ (h .same) q refl
 
-  pub held-runs : (k : ℕ) (d : CommandDescription) → decide table (partOf line from to) ≡ Next.Runs k d → after (n + 1) (doneAt line (handleOf k (partOf line from to) d x) (from + d .argument) (from + d .stop)) ≡ lineFrom table fresh line
+  pub held-runs : (k : ℕ) (d : CommandDescription) → decide table (partOf line from to) ≡ Next.Runs k d →
+      after (n + 1) (doneAt line (handleOf k (partOf line from to) d x) (from + d .argument) (from + d .stop)) ≡ lineFrom table fresh line
   unfolding step
   held-runs k d q =
       let i : In (d .argument) (to - from) (d .stop) = held-next (Next.Runs k d) q in

@@ -154,7 +154,8 @@ module _ (rs : List Row) (b : List ℕ) where
       let v = rowsBytes rs in
       let c = sets b areaCount (two (length v)) in
       let e = linePlace + twoAt b lineCount in
-      ap (λ (n : ℕ). partOf (sets c areaPlace v) linePlace (linePlace + n)) alias-chars ∙ part-behind c areaPlace v linePlace e (omega arith) ∙ part-behind b 2 (two (length v)) linePlace e (omega arith)
+      ap (λ (n : ℕ). partOf (sets c areaPlace v) linePlace (linePlace + n)) alias-chars ∙ part-behind c areaPlace v linePlace e (omega arith)
+      ∙ part-behind b 2 (two (length v)) linePlace e (omega arith)
 
 -- taken and written -------------------------------------------------------------------------------------------------------------------------
 

@@ -266,7 +266,8 @@ between n a b c d e f h = omega arith
 above : (n : ℕ) → (n ≡ 7 → ⊥) → (n ≡ 8 → ⊥) → (n ≡ 9 → ⊥) → (n ≡ 10 → ⊥) → (n ≡ 11 → ⊥) → 7 ≤ n → 12 ≤ n
 above n a b c d e h = omega arith
 
-pub none-found : (w : List ℕ) (n : ℕ) → Bytes w → length w ≡ n → (n ≡ 1 → ⊥) → (n ≡ 2 → ⊥) → (n ≡ 3 → ⊥) → (n ≡ 4 → ⊥) → (n ≡ 5 → ⊥) → (n ≡ 6 → ⊥) → (n ≡ 7 → ⊥) → (n ≡ 8 → ⊥) → (n ≡ 9 → ⊥) → (n ≡ 10 → ⊥) → (n ≡ 11 → ⊥) → lookup w ≡ Named.Unknown
+pub none-found : (w : List ℕ) (n : ℕ) → Bytes w → length w ≡ n → (n ≡ 1 → ⊥) → (n ≡ 2 → ⊥) → (n ≡ 3 → ⊥) → (n ≡ 4 → ⊥) → (n ≡ 5 → ⊥) → (n ≡ 6 → ⊥) → (n ≡ 7 → ⊥) → (n ≡ 8 → ⊥) →
+    (n ≡ 9 → ⊥) → (n ≡ 10 → ⊥) → (n ≡ 11 → ⊥) → lookup w ≡ Named.Unknown
 none-found w n h l a b c d e f g i j k m = go (decLt n 7)
   where
     go : Dec (n < 7) → lookup w ≡ Named.Unknown

@@ -31,7 +31,9 @@ loop-less : tie.Need-loop-less Inv-loop μ-loop
 loop-less c = search needs
 
 loop-again : tie.Need-loop-again Inv-loop μ-loop
-loop-again c = cc (from-on (c .before .before .before .loop .d) (c .before .before .before .before .before .args .s .now) (c .before .before .before .loop .i) (search needs))
+loop-again c =
+    let at-loop = c .before .before .before in
+    cc (from-on (at-loop .loop .d) (at-loop .before .before .args .s .now) (at-loop .loop .i) (search needs))
 
 returns : tie.Need-returns Inv-loop μ-loop
 returns c = cc (from-end (c .before .loop .d) (c .before .before .before .args .s .now) (c .before .loop .i) (search needs))

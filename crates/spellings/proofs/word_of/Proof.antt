@@ -30,13 +30,21 @@ part-requires : tie.Need-part-requires Inv-loop μ-loop
 part-requires c κs = search needs
 
 returns : tie.Need-returns Inv-loop μ-loop
-returns c = let a = c .before .before .before .before .before .before .before .args in let r = c .before .before .before .row-at .result in cc (word-here (row (partOf (a .rows .now) (r .start) (r .stop)) (r .command)) (rowsAt (a .rows .now) (r .stop)) (a .n) (search needs))
+returns c =
+    let read = c .before .before .before in
+    let a = read .before .before .before .before .args in
+    let r = read .row-at .result in
+    cc (word-here (row (partOf (a .rows .now) (r .start) (r .stop)) (r .command)) (rowsAt (a .rows .now) (r .stop)) (a .n) (search needs))
 
 loop-less : tie.Need-loop-less Inv-loop μ-loop
 loop-less c = omega (arith, c .before .before .row-at .ensures .1)
 
 loop-again : tie.Need-loop-again Inv-loop μ-loop
-loop-again c = let a = c .before .before .before .before .before .before .args in let r = c .before .before .row-at .result in cc (word-past (row (partOf (a .rows .now) (r .start) (r .stop)) (r .command)) (rowsAt (a .rows .now) (r .stop)) (a .n) (search needs))
+loop-again c =
+    let read = c .before .before in
+    let a = read .before .before .before .before .args in
+    let r = read .row-at .result in
+    cc (word-past (row (partOf (a .rows .now) (r .start) (r .stop)) (r .command)) (rowsAt (a .rows .now) (r .stop)) (a .n) (search needs))
 
 part-requires-2 : tie.Need-part-requires-2 Inv-loop μ-loop
 part-requires-2 c κs = search needs

@@ -12,14 +12,18 @@ put-number-requires c κs = room-first _ _ (c .before .before .before .pre)
 
 put-bytes-requires : tie.Need-put-bytes-requires
 unfolding named
-put-bytes-requires c κs = room-next (c .before .before .before .put-number .ensures) (c .before .before .before .before .before .before .before .pre)
+put-bytes-requires c κs =
+    let at-put-number = c .before .before .before in
+    room-next (at-put-number .put-number .ensures) (at-put-number .before .before .before .before .pre)
 
 same-length : tie.Need-same-length
 same-length c = search needs
 
 returns : tie.Need-returns
 unfolding named
-returns c = put-then (c .before .before .before .before .before .before .put-number .ensures) (c .before .before .put-bytes .ensures)
+returns c =
+    let at-put-bytes = c .before .before in
+    put-then (at-put-bytes .before .before .before .before .put-number .ensures) (at-put-bytes .put-bytes .ensures)
 
 pub put-name-spec : {M : Type 1} → statement M
 put-name-spec = tie.close (tie.spec put-number-requires put-bytes-requires same-length returns)

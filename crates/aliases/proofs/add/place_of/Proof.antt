@@ -45,13 +45,19 @@ enum-told : tie.Need-enum-told Inv-loop μ-loop
 enum-told c = search needs
 
 returns : tie.Need-returns Inv-loop μ-loop
-returns c = sym (c .before .before .before .before .before .before .loop .inv ∙ place-less _ _ _ (c .before .before .before .before .before .loop-test .taken) (sym (c .before .before .compare .ensures ∙ ap (orderOf _) (c .before .before .before .part .ensures)) ∙ c .enum-told .given .1))
+returns c =
+    let at-part = c .before .before .before in
+    sym (at-part .before .before .before .loop .inv ∙ place-less _ _ _ (at-part .before .before .loop-test .taken)
+    (sym (c .before .before .compare .ensures ∙ ap (orderOf _) (at-part .part .ensures)) ∙ c .enum-told .given .1))
 
 enum-told-2 : tie.Need-enum-told-2 Inv-loop μ-loop
 enum-told-2 c = search needs
 
 returns-2 : tie.Need-returns-2 Inv-loop μ-loop
-returns-2 c = sym (c .before .before .before .before .before .before .loop .inv ∙ place-same _ _ _ (c .before .before .before .before .before .loop-test .taken) (sym (c .before .before .compare .ensures ∙ ap (orderOf _) (c .before .before .before .part .ensures)) ∙ c .enum-told2 .given .1))
+returns-2 c =
+    let at-part = c .before .before .before in
+    sym (at-part .before .before .before .loop .inv ∙ place-same _ _ _ (at-part .before .before .loop-test .taken)
+    (sym (c .before .before .compare .ensures ∙ ap (orderOf _) (at-part .part .ensures)) ∙ c .enum-told2 .given .1))
 
 enum-told-3 : tie.Need-enum-told-3 Inv-loop μ-loop
 enum-told-3 c = search needs
@@ -60,7 +66,10 @@ loop-less : tie.Need-loop-less Inv-loop μ-loop
 loop-less c = search needs
 
 loop-again : tie.Need-loop-again Inv-loop μ-loop
-loop-again c = c .before .before .before .before .before .before .loop .inv ∙ place-greater _ _ _ (c .before .before .before .before .before .loop-test .taken) (sym (c .before .before .compare .ensures ∙ ap (orderOf _) (c .before .before .before .part .ensures)) ∙ c .enum-told3 .given .1)
+loop-again c =
+    let at-part = c .before .before .before in
+    at-part .before .before .before .loop .inv ∙ place-greater _ _ _ (at-part .before .before .loop-test .taken)
+    (sym (c .before .before .compare .ensures ∙ ap (orderOf _) (at-part .part .ensures)) ∙ c .enum-told3 .given .1)
 
 returns-3 : tie.Need-returns-3 Inv-loop μ-loop
 returns-3 c = sym (c .before .loop .inv ∙ place-end _ _ _ (c .loop-test .left))

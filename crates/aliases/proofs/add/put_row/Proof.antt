@@ -28,7 +28,10 @@ put-bytes-requires : tie.Need-put-bytes-requires
 put-bytes-requires c κs = room-two _ _ _ _ (c .before .before .before .pre .1)
 
 same-length : tie.Need-same-length
-same-length c = put-length (c .before .before .put-bytes .ensures) ∙ length-two (c .before .before .before .before .before .before .args .out .now) (c .before .before .before .before .before .before .args .at) (length (c .before .before .before .before .before .before .args .w .now)) (c .before .before .before .before .before .before .args .command)
+same-length c =
+    let at-put-bytes = c .before .before in
+    let entry = at-put-bytes .before .before .before .before in
+    put-length (at-put-bytes .put-bytes .ensures) ∙ length-two (entry .args .out .now) (entry .args .at) (length (entry .args .w .now)) (entry .args .command)
 
 returns : tie.Need-returns
 returns c = put-two _ _ _ _ (c .before .before .put-bytes .ensures)

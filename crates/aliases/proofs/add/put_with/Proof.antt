@@ -15,13 +15,18 @@ part-requires c κs = search needs
 
 put-bytes-requires : tie.Need-put-bytes-requires
 put-bytes-requires c κs =
-    let r = rw (insert-bytes (c .before .before .before .before .before .before .args .area .now) (c .before .before .before .before .before .before .args .w .now) (c .before .before .before .before .before .before .args .command) (c .before .before .before .before .before .before .pre .0)) at (c .before .before .before .before .before .before .pre .1 .1) in
-    rw (c .part .ensures, c .before .before .place-of .ensures) (room-first _ _ r)
+    let at-place-of = c .before .before in
+    let entry = at-place-of .before .before .before .before in
+    let r = rw (insert-bytes (entry .args .area .now) (entry .args .w .now) (entry .args .command) (entry .pre .0)) at (entry .pre .1 .1) in
+    rw (c .part .ensures, at-place-of .place-of .ensures) (room-first _ _ r)
 
 put-row-requires : tie.Need-put-row-requires
 put-row-requires c κs =
-    let r = rw (insert-bytes (c .before .before .before .before .before .before .before .before .before .before .args .area .now) (c .before .before .before .before .before .before .before .before .before .before .args .w .now) (c .before .before .before .before .before .before .before .before .before .before .args .command) (c .before .before .before .before .before .before .before .before .before .before .pre .0)) at (c .before .before .before .before .before .before .before .before .before .before .pre .1 .1) in
-    let p = rw (c .before .before .before .before .part .ensures, c .before .before .before .before .before .before .place-of .ensures) at (c .before .before .before .put-bytes .ensures) in
+    let at-part = c .before .before .before .before in
+    let at-place-of = at-part .before .before in
+    let entry = at-place-of .before .before .before .before in
+    let r = rw (insert-bytes (entry .args .area .now) (entry .args .w .now) (entry .args .command) (entry .pre .0)) at (entry .pre .1 .1) in
+    let p = rw (at-part .part .ensures, at-place-of .place-of .ensures) at (c .before .before .before .put-bytes .ensures) in
     (search needs, room-first _ _ (room-next p r))
 
 part-requires-2 : tie.Need-part-requires-2
@@ -29,20 +34,33 @@ part-requires-2 c κs = search needs
 
 put-bytes-requires-2 : tie.Need-put-bytes-requires-2
 put-bytes-requires-2 c κs =
-    let r = rw (insert-bytes (c .before .before .before .before .before .before .before .before .before .before .before .before .before .before .before .args .area .now) (c .before .before .before .before .before .before .before .before .before .before .before .before .before .before .before .args .w .now) (c .before .before .before .before .before .before .before .before .before .before .before .before .before .before .before .args .command) (c .before .before .before .before .before .before .before .before .before .before .before .before .before .before .before .pre .0)) at (c .before .before .before .before .before .before .before .before .before .before .before .before .before .before .before .pre .1 .1) in
-    let p = rw (c .before .before .before .before .before .before .before .before .before .part .ensures, c .before .before .before .before .before .before .before .before .before .before .before .place-of .ensures) at (c .before .before .before .before .before .before .before .before .put-bytes .ensures) in
-    let q = c .before .before .before .before .put-row .ensures in
-    rw (c .part2 .ensures, c .before .before .before .before .before .before .before .before .before .before .before .place-of .ensures) (room-next q (room-next p r))
+    let at-put-row = c .before .before .before .before in
+    let at-put-bytes = at-put-row .before .before .before .before in
+    let at-place-of = at-put-bytes .before .before .before in
+    let entry = at-place-of .before .before .before .before in
+    let r = rw (insert-bytes (entry .args .area .now) (entry .args .w .now) (entry .args .command) (entry .pre .0)) at (entry .pre .1 .1) in
+    let p = rw (at-put-bytes .before .part .ensures, at-place-of .place-of .ensures) at (at-put-bytes .put-bytes .ensures) in
+    let q = at-put-row .put-row .ensures in
+    rw (c .part2 .ensures, at-place-of .place-of .ensures) (room-next q (room-next p r))
 
 same-length : tie.Need-same-length
-same-length c = put-length (c .before .before .put-bytes2 .ensures) ∙ put-length (c .before .before .before .before .before .before .before .put-row .ensures) ∙ put-length (c .before .before .before .before .before .before .before .before .before .before .before .put-bytes .ensures)
+same-length c =
+    let at-part2 = c .before .before .before in
+    let at-put-row = at-part2 .before .before .before .before in
+    put-length (c .before .before .put-bytes2 .ensures) ∙ put-length (at-put-row .put-row .ensures)
+    ∙ put-length (at-put-row .before .before .before .before .put-bytes .ensures)
 
 returns : tie.Need-returns
 returns c =
-    let p = rw (c .before .before .before .before .before .before .before .before .before .before .before .before .part .ensures, c .before .before .before .before .before .before .before .before .before .before .before .before .before .before .place-of .ensures) at (c .before .before .before .before .before .before .before .before .before .before .before .put-bytes .ensures) in
-    let q = c .before .before .before .before .before .before .before .put-row .ensures in
-    let v = rw (c .before .before .before .part2 .ensures, c .before .before .before .before .before .before .before .before .before .before .before .before .before .before .place-of .ensures) at (c .before .before .put-bytes2 .ensures) in
-    rw (insert-bytes (c .before .before .before .before .before .before .before .before .before .before .before .before .before .before .before .before .before .before .args .area .now) (c .before .before .before .before .before .before .before .before .before .before .before .before .before .before .before .before .before .before .args .w .now) (c .before .before .before .before .before .before .before .before .before .before .before .before .before .before .before .before .before .before .args .command) (c .before .before .before .before .before .before .before .before .before .before .before .before .before .before .before .before .before .before .pre .0)) (put-then p (put-then q v))
+    let at-part2 = c .before .before .before in
+    let at-put-row = at-part2 .before .before .before .before in
+    let at-put-bytes = at-put-row .before .before .before .before in
+    let at-place-of = at-put-bytes .before .before .before in
+    let entry = at-place-of .before .before .before .before in
+    let p = rw (at-put-bytes .before .part .ensures, at-place-of .place-of .ensures) at (at-put-bytes .put-bytes .ensures) in
+    let q = at-put-row .put-row .ensures in
+    let v = rw (at-part2 .part2 .ensures, at-place-of .place-of .ensures) at (c .before .before .put-bytes2 .ensures) in
+    rw (insert-bytes (entry .args .area .now) (entry .args .w .now) (entry .args .command) (entry .pre .0)) (put-then p (put-then q v))
 
 pub put-with-spec : {M : Type 1} → statement M
 put-with-spec =

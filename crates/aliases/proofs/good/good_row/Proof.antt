@@ -30,7 +30,15 @@ is-less-requires c κs = search needs
 
 returns-4 : tie.Need-returns-4
 unfolding goodRow
-returns-4 c = rw (c .is-less .ensures, c .before .compare .ensures, eq-eqb _ _ (c .before .before .before .before .before .if1 .left), le-leb _ _ (c .before .before .before .before .if2 .left), sym (c .before .before .before .is-alias .ensures) ∙ not-false _ (c .before .before .if3 .left))
+returns-4 c =
+    let at-if2 = c .before .before .before .before in
+    rw (
+      c .is-less .ensures,
+      c .before .compare .ensures,
+      eq-eqb _ _ (at-if2 .before .if1 .left),
+      le-leb _ _ (at-if2 .if2 .left),
+      sym (c .before .before .before .is-alias .ensures) ∙ not-false _ (c .before .before .if3 .left),
+    )
 
 pub good-row-spec : {M : Type 1} → statement M
 good-row-spec =

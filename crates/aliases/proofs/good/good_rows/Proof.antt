@@ -53,7 +53,10 @@ good-row-requires : tie.Need-good-row-requires Inv-loop μ-loop
 good-row-requires c κs = search needs
 
 returns : tie.Need-returns Inv-loop μ-loop
-returns c = sym (c .before .before .before .before .before .before .before .loop .inv ∙ good-past _ _ _ (c .before .before .before .before .before .before .loop-test .taken) (sym (c .before .good-row .ensures ∙ row-tested _ (c .before .before .before .before .part .ensures) (c .before .before .before .byte-at .ensures) (c .before .before .part2 .ensures)) ∙ not-true _ (c .if1 .taken)))
+returns c =
+    let at-part = c .before .before .before .before in
+    sym (at-part .before .before .before .loop .inv ∙ good-past _ _ _ (at-part .before .before .loop-test .taken) (sym (c .before .good-row .ensures
+    ∙ row-tested _ (at-part .part .ensures) (c .before .before .before .byte-at .ensures) (c .before .before .part2 .ensures)) ∙ not-true _ (c .if1 .taken)))
 
 add-from : tie.Need-add-from Inv-loop μ-loop
 add-from c = search needs
@@ -62,7 +65,10 @@ loop-less : tie.Need-loop-less Inv-loop μ-loop
 loop-less c = search needs
 
 loop-again : tie.Need-loop-again Inv-loop μ-loop
-loop-again c = c .before .before .before .before .before .before .before .loop .inv ∙ good-here _ _ _ (c .before .before .before .before .before .before .loop-test .taken) (sym (c .before .good-row .ensures ∙ row-tested _ (c .before .before .before .before .part .ensures) (c .before .before .before .byte-at .ensures) (c .before .before .part2 .ensures)) ∙ not-false _ (c .if1 .left))
+loop-again c =
+    let at-part = c .before .before .before .before in
+    at-part .before .before .before .loop .inv ∙ good-here _ _ _ (at-part .before .before .loop-test .taken) (sym (c .before .good-row .ensures
+    ∙ row-tested _ (at-part .part .ensures) (c .before .before .before .byte-at .ensures) (c .before .before .part2 .ensures)) ∙ not-false _ (c .if1 .left))
 
 returns-2 : tie.Need-returns-2 Inv-loop μ-loop
 returns-2 c = sym (c .before .loop .inv ∙ good-end _ _ _ (c .loop-test .left))

@@ -168,7 +168,10 @@ cast-c-4 : tie.Need-cast-c-4 Inv-loop μ-loop Inv-loop2 μ-loop2 Inv-loop3 μ-lo
 cast-c-4 c = search needs
 
 add-c-4 : tie.Need-add-c-4 Inv-loop μ-loop Inv-loop2 μ-loop2 Inv-loop3 μ-loop3 Inv-loop4 μ-loop4
-add-c-4 c = omega (arith, c .letter .ensures, letter-most (getD (c .before .before .before .before .before .before .before .before .before .before .before .args .s .now) (c .before .before .before .loop4 .i) 0))
+add-c-4 c =
+    let at-loop4 = c .before .before .before in
+    let at-loop2 = at-loop4 .before .before .before .before in
+    omega (arith, c .letter .ensures, letter-most (getD (at-loop2 .before .before .before .before .args .s .now) (at-loop4 .loop4 .i) 0))
 
 add-i-4 : tie.Need-add-i-4 Inv-loop μ-loop Inv-loop2 μ-loop2 Inv-loop3 μ-loop3 Inv-loop4 μ-loop4
 add-i-4 c = search needs
@@ -180,15 +183,20 @@ loop4-less c = search needs
 loop4-again :
     tie.Need-loop4-again Inv-loop μ-loop Inv-loop2 μ-loop2 Inv-loop3 μ-loop3 Inv-loop4 μ-loop4
 loop4-again c =
-    let l = c .before .before .before .loop4 in
-    let s = c .before .before .before .before .before .before .before .before .before .before .before .args .s .now in (
+    let fourth = c .before .before .before in
+    let l = fourth .loop4 in
+    let second = fourth .before .before .before .before in
+    let s = second .before .before .before .before .args .s .now in (
       omega arith,
       omega (arith, c .letter .ensures, letter-most (getD s (l .i) 0)),
       omega (arith, l .inv .2, c .letter .ensures, letters-step s (l .i) (omega arith)),
     )
 
 returns : tie.Need-returns Inv-loop μ-loop Inv-loop2 μ-loop2 Inv-loop3 μ-loop3 Inv-loop4 μ-loop4
-returns c = omega (arith, c .before .loop4 .inv .2, letters-end (c .before .before .before .before .before .before .before .before .before .args .s .now) (c .before .loop4 .i) (omega arith))
+returns c =
+    let at-loop4 = c .before in
+    let at-loop2 = at-loop4 .before .before .before .before in
+    omega (arith, at-loop4 .loop4 .inv .2, letters-end (at-loop2 .before .before .before .before .args .s .now) (at-loop4 .loop4 .i) (omega arith))
 
 pub letters-spec : {M : Type 1} → statement M
 letters-spec =

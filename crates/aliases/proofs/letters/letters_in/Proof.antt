@@ -29,7 +29,10 @@ letter-requires : tie.Need-letter-requires Inv-loop μ-loop
 letter-requires c κs = search needs
 
 add-c : tie.Need-add-c Inv-loop μ-loop
-add-c c = omega (arith, c .letter .ensures, letter-most (getD (c .before .before .before .before .before .args .s .now) (c .before .before .before .before .before .args .at + c .before .before .before .loop .i) 0))
+add-c c =
+    let at-loop = c .before .before .before in
+    let entry = at-loop .before .before in
+    omega (arith, c .letter .ensures, letter-most (getD (entry .args .s .now) (entry .args .at + at-loop .loop .i) 0))
 
 add-i : tie.Need-add-i Inv-loop μ-loop
 add-i c = search needs
@@ -39,12 +42,14 @@ loop-less c = search needs
 
 loop-again : tie.Need-loop-again Inv-loop μ-loop
 loop-again c =
-    let a = c .before .before .before .before .before .args in
-    let l = c .before .before .before .loop in
+    let at-loop = c .before .before .before in
+    let entry = at-loop .before .before in
+    let a = entry .args in
+    let l = at-loop .loop in
     let b = getD (a .s .now) (a .at + l .i) 0 in (
       omega arith,
       omega (arith, c .letter .ensures, letter-most b),
-      omega (arith, c .letter .ensures, letters-on (a .s .now) (a .at) (l .i) (l .c) (omega (arith, c .before .before .before .before .before .pre)) (l .inv .2)),
+      omega (arith, c .letter .ensures, letters-on (a .s .now) (a .at) (l .i) (l .c) (omega (arith, entry .pre)) (l .inv .2)),
     )
 
 returns : tie.Need-returns Inv-loop μ-loop

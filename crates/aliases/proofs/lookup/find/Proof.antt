@@ -35,8 +35,9 @@ loop-less c = omega (arith, c .past .ensures .0)
 
 loop-again : tie.Need-loop-again Inv-loop μ-loop
 loop-again c =
-    let a = c .before .before .before .before .before .before .before .args in
-    λ h. c .before .before .before .before .loop .inv (omega arith) ∙ c .past .ensures .1 h (a .w .now) (λ e. c .before .if1 .taken (sym e))
+    let at-loop = c .before .before .before .before in
+    let a = at-loop .before .before .before .args in
+    λ h. at-loop .loop .inv (omega arith) ∙ c .past .ensures .1 h (a .w .now) (λ e. c .before .if1 .taken (sym e))
 
 add-stands-at : tie.Need-add-stands-at Inv-loop μ-loop
 add-stands-at c = search needs
@@ -51,14 +52,20 @@ shared-slice-read-t13 : tie.Need-shared-slice-read-t13 Inv-loop μ-loop
 shared-slice-read-t13 c = omega (arith, c .before .before .stands-at .ensures .1 (c .before .if2 .taken))
 
 cast-t14 : tie.Need-cast-t14 Inv-loop μ-loop
-cast-t14 c = omega (arith, c .shared-slice-known4 .given (c .before .before .before .before .before .before .loop .i + 1))
+cast-t14 c =
+    let at-if1 = c .before .before .before in
+    omega (arith, c .shared-slice-known4 .given (at-if1 .before .before .before .loop .i + 1))
 
 returns : tie.Need-returns Inv-loop μ-loop
 returns c =
-    let a = c .before .before .before .before .before .before .before .before .before .args in
-    let l = c .before .before .before .before .before .before .loop in
-    let n = c .before .before .before .if1 .left in
-    let e = ap (λ (k : ℕ). sameWord (a .w .now) (partOf (a .added .now) (l .i + 2) (l .i + 2 + k))) n ∙ sym (c .before .before .stands-at .ensures .0 (c .before .before .stands-at .ensures .1 (c .before .if2 .taken))) ∙ c .before .if2 .taken in
+    let at-if1 = c .before .before .before in
+    let at-loop = at-if1 .before .before .before in
+    let a = at-loop .before .before .before .args in
+    let l = at-loop .loop in
+    let n = at-if1 .if1 .left in
+    let e =
+    ap (λ (k : ℕ). sameWord (a .w .now) (partOf (a .added .now) (l .i + 2) (l .i + 2 + k))) n
+    ∙ sym (c .before .before .stands-at .ensures .0 (c .before .before .stands-at .ensures .1 (c .before .if2 .taken))) ∙ c .before .if2 .taken in
     sym (l .inv (omega arith) ∙ find-here (a .added .now) (a .w .now) (l .i) (omega arith) e)
 
 add-i : tie.Need-add-i Inv-loop μ-loop
@@ -72,12 +79,16 @@ loop-less-2 c = search needs
 
 loop-again-2 : tie.Need-loop-again-2 Inv-loop μ-loop
 loop-again-2 c =
+    let at-if1 = c .before .before in
+    let at-loop = at-if1 .before .before .before in
     λ h.
-    let a = c .before .before .before .before .before .before .before .before .args in
-    let l = c .before .before .before .before .before .loop in
-    let n = c .before .before .if1 .left in
-    let e = ap (λ (k : ℕ). sameWord (a .w .now) (partOf (a .added .now) (l .i + 2) (l .i + 2 + k))) n ∙ sym (c .before .stands-at .ensures .0 h) ∙ c .if2 .left in
-    l .inv (omega arith) ∙ find-past (a .added .now) (a .w .now) (l .i) (omega arith) e ∙ ap (λ (k : ℕ). lookupIn (rowsAt (a .added .now) (l .i + 2 + k)) (a .w .now)) n
+    let a = at-loop .before .before .before .args in
+    let l = at-loop .loop in
+    let n = at-if1 .if1 .left in
+    let e =
+    ap (λ (k : ℕ). sameWord (a .w .now) (partOf (a .added .now) (l .i + 2) (l .i + 2 + k))) n ∙ sym (c .before .stands-at .ensures .0 h) ∙ c .if2 .left in
+    l .inv (omega arith) ∙ find-past (a .added .now) (a .w .now) (l .i) (omega arith) e
+    ∙ ap (λ (k : ℕ). lookupIn (rowsAt (a .added .now) (l .i + 2 + k)) (a .w .now)) n
 
 find-plainly-requires : tie.Need-find-plainly-requires Inv-loop μ-loop
 find-plainly-requires c κs = search needs

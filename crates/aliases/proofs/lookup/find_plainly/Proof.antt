@@ -52,16 +52,20 @@ cast-t14 c = search needs
 
 returns : tie.Need-returns Inv-loop μ-loop
 returns c =
-    let l = c .before .before .before .before .before .before .loop in
-    rw (c .byte-at .ensures) (sym (l .inv ∙ find-here _ _ _ (c .before .before .before .before .before .loop-test .taken) (sym (c .before .before .same .ensures ∙ ap (sameWord _) (c .before .before .before .part .ensures)) ∙ c .before .if1 .taken)))
+    let at-part = c .before .before .before in
+    let l = at-part .before .before .before .loop in
+    rw (c .byte-at .ensures) (sym (l .inv ∙ find-here _ _ _ (at-part .before .before .loop-test .taken)
+    (sym (c .before .before .same .ensures ∙ ap (sameWord _) (at-part .part .ensures)) ∙ c .before .if1 .taken)))
 
 loop-less : tie.Need-loop-less Inv-loop μ-loop
 loop-less c = search needs
 
 loop-again : tie.Need-loop-again Inv-loop μ-loop
 loop-again c =
-    let l = c .before .before .before .before .before .loop in
-    l .inv ∙ find-past _ _ _ (c .before .before .before .before .loop-test .taken) (sym (c .before .same .ensures ∙ ap (sameWord _) (c .before .before .part .ensures)) ∙ c .if1 .left)
+    let at-loop-test = c .before .before .before .before in
+    let l = at-loop-test .before .loop in
+    l .inv ∙ find-past _ _ _ (at-loop-test .loop-test .taken)
+    (sym (c .before .same .ensures ∙ ap (sameWord _) (c .before .before .part .ensures)) ∙ c .if1 .left)
 
 returns-2 : tie.Need-returns-2 Inv-loop μ-loop
 returns-2 c = sym (c .before .loop .inv ∙ find-end _ _ _ (c .loop-test .left))

@@ -42,12 +42,14 @@ shared-slice-read-if3-2 c = search needs
 
 returns-3 : tie.Need-returns-3 Inv-loop μ-loop
 returns-3 c =
-    let a = c .before .before .before .before .before .args in
+    let at-if1 = c .before .before .before .before in
+    let a = at-if1 .before .args in
     (λ h. sym (same-nowhere (a .s .now) (a .w .now) (a .at) h (length (a .w .now) - 1) (omega arith) (c .if3 .taken)), λ h. absurd (false≢true h))
 
 loop-holds : tie.Need-loop-holds Inv-loop μ-loop
 loop-holds c =
-    let a = c .before .before .before .before .before .args in
+    let at-if1 = c .before .before .before .before in
+    let a = at-if1 .before .args in
     (omega arith, same-down (a .s .now) (a .w .now) (a .at) (length (a .w .now)) (λ q h i. absurd (omega arith)) (c .if3 .left))
 
 sub-k-2 : tie.Need-sub-k-2 Inv-loop μ-loop
@@ -64,8 +66,10 @@ shared-slice-read-if4-2 c = search needs
 
 returns-4 : tie.Need-returns-4 Inv-loop μ-loop
 returns-4 c =
-    let a = c .before .before .before .before .before .before .before .before .before .before .args in
-    let l = c .before .before .before .before .loop in
+    let at-loop = c .before .before .before .before in
+    let at-if2 = at-loop .before .before .before .before in
+    let a = at-if2 .before .before .args in
+    let l = at-loop .loop in
     (λ h. sym (same-nowhere (a .s .now) (a .w .now) (a .at) h (l .k - 1) (omega arith) (c .if4 .taken)), λ h. absurd (false≢true h))
 
 loop-less : tie.Need-loop-less Inv-loop μ-loop
@@ -73,13 +77,16 @@ loop-less c = search needs
 
 loop-again : tie.Need-loop-again Inv-loop μ-loop
 loop-again c =
-    let a = c .before .before .before .before .before .before .before .before .before .before .args in
-    let l = c .before .before .before .before .loop in
+    let at-loop = c .before .before .before .before in
+    let at-if2 = at-loop .before .before .before .before in
+    let a = at-if2 .before .before .args in
+    let l = at-loop .loop in
     (omega arith, same-down (a .s .now) (a .w .now) (a .at) (l .k) (l .inv .1) (c .if4 .left))
 
 returns-5 : tie.Need-returns-5 Inv-loop μ-loop
 returns-5 c =
-    let a = c .before .before .before .before .before .before .before .args in
+    let at-shared-slice-known = c .before .before .before .before in
+    let a = at-shared-slice-known .before .before .before .args in
     let l = c .before .loop in
     (λ h. sym (same-there (a .s .now) (a .w .now) (a .at) h (λ q i j. l .inv .1 q (omega arith) j)), λ h. omega arith)
 

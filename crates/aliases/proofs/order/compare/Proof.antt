@@ -28,10 +28,14 @@ shared-slice-read-y : tie.Need-shared-slice-read-y Inv-loop μ-loop
 shared-slice-read-y c = search needs
 
 returns-2 : tie.Need-returns-2 Inv-loop μ-loop
-returns-2 c = sym (c .before .before .before .before .before .loop .inv ∙ order-less _ _ _ (c .before .before .before .before .loop-test .taken) (c .before .before .before .if1 .left) (c .if2 .taken))
+returns-2 c =
+    let at-loop-test = c .before .before .before .before in
+    sym (at-loop-test .before .loop .inv ∙ order-less _ _ _ (at-loop-test .loop-test .taken) (c .before .before .before .if1 .left) (c .if2 .taken))
 
 returns-3 : tie.Need-returns-3 Inv-loop μ-loop
-returns-3 c = sym (c .before .before .before .before .before .before .loop .inv ∙ order-greater _ _ _ (c .before .before .before .before .before .loop-test .taken) (c .before .before .before .before .if1 .left) (c .if3 .taken))
+returns-3 c =
+    let at-if1 = c .before .before .before .before in
+    sym (at-if1 .before .before .loop .inv ∙ order-greater _ _ _ (at-if1 .before .loop-test .taken) (at-if1 .if1 .left) (c .if3 .taken))
 
 add-i : tie.Need-add-i Inv-loop μ-loop
 add-i c = search needs
@@ -40,7 +44,9 @@ loop-less : tie.Need-loop-less Inv-loop μ-loop
 loop-less c = search needs
 
 loop-again : tie.Need-loop-again Inv-loop μ-loop
-loop-again c = c .before .before .before .before .before .before .loop .inv ∙ order-on _ _ _ (c .before .before .before .before .before .loop-test .taken) (c .before .before .before .before .if1 .left) (c .before .if2 .left) (c .if3 .left)
+loop-again c =
+    let at-if1 = c .before .before .before .before in
+    at-if1 .before .before .loop .inv ∙ order-on _ _ _ (at-if1 .before .loop-test .taken) (at-if1 .if1 .left) (c .before .if2 .left) (c .if3 .left)
 
 returns-4 : tie.Need-returns-4 Inv-loop μ-loop
 returns-4 c = sym (c .before .before .loop .inv ∙ order-shorter _ _ _ (c .before .loop-test .left) (c .if4 .taken))

@@ -58,27 +58,38 @@ shared-slice-read-if4 : tie.Need-shared-slice-read-if4 Inv-loop μ-loop
 shared-slice-read-if4 c = search needs
 
 returns-4 : tie.Need-returns-4 Inv-loop μ-loop
-returns-4 c = c .before .before .before .before .before .loop .inv
+returns-4 c =
+    let at-loop-test = c .before .before .before .before in
+    at-loop-test .before .loop .inv
 
 add-eight : tie.Need-add-eight Inv-loop μ-loop
 add-eight c = search needs
 
 eight-requires-2 : tie.Need-eight-requires-2 Inv-loop μ-loop
-eight-requires-2 c κs = omega (arith, c .before .before .before .before .before .before .room .ensures .0)
+eight-requires-2 c κs =
+    let at-loop-test = c .before .before .before .before in
+    omega (arith, at-loop-test .before .before .room .ensures .0)
 
 add-word-after : tie.Need-add-word-after Inv-loop μ-loop
 add-word-after c = search needs
 
 word-after-requires : tie.Need-word-after-requires Inv-loop μ-loop
 word-after-requires c κs =
-    let m = c .before .before .before .before .before .before .loop in
-    (omega (arith, m .inv .0 .back), (omega (arith, c .before .before .before .before .before .before .before .room .ensures .1), (omega arith, (omega arith, (m .inv .1, c .eight2 .ensures)))))
+    let at-if3 = c .before .before .before in
+    let m = at-if3 .before .before .before .loop in (
+      omega (arith, m .inv .0 .back),
+      (omega (arith, at-if3 .before .before .before .before .room .ensures .1), (omega arith, (omega arith, (m .inv .1, c .eight2 .ensures)))),
+    )
 
 returns-5 : tie.Need-returns-5 Inv-loop μ-loop
-returns-5 c = c .before .before .before .before .before .before .before .before .loop .inv
+returns-5 c =
+    let at-shared-slice-known4 = c .before .before .before .before in
+    at-shared-slice-known4 .before .before .before .before .loop .inv
 
 add-k : tie.Need-add-k Inv-loop μ-loop
-add-k c = omega (arith, passed-few (c .before .before .before .before .before .before .before .before .loop .inv .0))
+add-k c =
+    let at-shared-slice-known4 = c .before .before .before .before in
+    omega (arith, passed-few (at-shared-slice-known4 .before .before .before .before .loop .inv .0))
 
 add-from : tie.Need-add-from Inv-loop μ-loop
 add-from c = search needs
@@ -94,10 +105,15 @@ loop-less c = search needs
 
 loop-again : tie.Need-loop-again Inv-loop μ-loop
 loop-again c =
-    let s = c .before .before .before .before .before .before .before .before .before .before .before .before .before .before .before .args .s .now in
-    let m = c .before .before .before .before .before .before .before .before .loop in (
-      passed-as s (m .from) (m .i) (m .k) (byteAt s 0) (m .inv .0) (c .before .before .before .before .before .if3 .left) (omega (arith, c .before .before .before .before .before .before .before .before .before .room .ensures .1)) (omega arith) (omega arith) (omega arith) (c .before .word-after .ensures (not-false _ (c .if5 .left))),
-      c .before .before .eight2 .ensures,
+    let at-eight2 = c .before .before in
+    let at-if3 = at-eight2 .before .before .before in
+    let at-room = at-if3 .before .before .before .before in
+    let at-eight = at-room .before .before .before .before in
+    let s = at-eight .before .before .args .s .now in
+    let m = at-if3 .before .before .before .loop in (
+      passed-as s (m .from) (m .i) (m .k) (byteAt s 0) (m .inv .0) (at-if3 .if3 .left) (omega (arith, at-room .room .ensures .1)) (omega arith) (omega arith)
+          (omega arith) (c .before .word-after .ensures (not-false _ (c .if5 .left))),
+      at-eight2 .eight2 .ensures,
     )
 
 returns-6 : tie.Need-returns-6 Inv-loop μ-loop

@@ -53,13 +53,18 @@ add-bytes-after : tie.Need-add-bytes-after Inv-loop μ-loop
 add-bytes-after c = search needs
 
 bytes-after-requires : tie.Need-bytes-after-requires Inv-loop μ-loop
-bytes-after-requires c κs = (omega (arith, c .before .before .before .before .before .before .before .loop .inv .back), omega arith)
+bytes-after-requires c κs =
+    let at-if1 = c .before .before .before .before in
+    (omega (arith, at-if1 .before .before .before .loop .inv .back), omega arith)
 
 returns-5 : tie.Need-returns-5 Inv-loop μ-loop
 returns-5 c = λ h e. absurd (omega arith)
 
 add-k : tie.Need-add-k Inv-loop μ-loop
-add-k c = omega (arith, passed-few (c .before .before .before .before .before .before .before .before .before .loop .inv))
+add-k c =
+    let at-if3 = c .before .before .before .before in
+    let at-loop-test = at-if3 .before .before .before .before in
+    omega (arith, passed-few (at-loop-test .before .loop .inv))
 
 add-from : tie.Need-add-from Inv-loop μ-loop
 add-from c = search needs
@@ -69,9 +74,20 @@ loop-less c = search needs
 
 loop-again : tie.Need-loop-again Inv-loop μ-loop
 loop-again c =
-    let a = c .before .before .before .before .before .before .before .before .before .before .before .args in
-    let l = c .before .before .before .before .before .before .before .before .before .loop in
-    passed-on (a .s .now) (l .from) (l .i) (l .k) (l .inv) record { here = omega arith; some = omega arith; few = omega arith; command = omega arith; after = c .before .bytes-after .ensures (not-false _ (c .if5 .left)) }
+    let at-bytes-after = c .before in
+    let at-if2 = at-bytes-after .before .before .before .before in
+    let at-loop = at-if2 .before .before .before .before in
+    let a = at-loop .before .before .args in
+    let l = at-loop .loop in
+    passed-on (a .s .now) (l .from) (l .i) (l .k)
+    (l .inv) record {
+      here = omega arith;
+      some = omega arith;
+      few = omega arith;
+      command = omega arith;
+      after = at-bytes-after .bytes-after .ensures
+          (not-false _ (c .if5 .left));
+    }
 
 returns-6 : tie.Need-returns-6 Inv-loop μ-loop
 returns-6 c = λ h e. passed-end (c .before .loop .inv) (c .loop-test .left) h e

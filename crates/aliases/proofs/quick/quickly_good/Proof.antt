@@ -26,7 +26,13 @@ add-result : tie.Need-add-result
 add-result c = omega (arith, c .letters .ensures, letters-most (c .before .before .before .before .args .area .now))
 
 returns-2 : tie.Need-returns-2
-returns-2 c = λ h. c .before .before .rows .ensures (omega arith) (omega (arith, c .letters .ensures, eqb-true (c .letters .result + 2 * c .before .before .rows .result) (length (c .before .before .before .before .args .area .now)) h))
+returns-2 c =
+    λ h. c .before .before .rows .ensures (omega arith) (omega (
+      arith,
+      c .letters .ensures,
+      eqb-true (c .letters .result + 2 * c .before .before .rows .result)
+          (length (c .before .before .before .before .args .area .now)) h,
+    ))
 
 pub quickly-good-spec : {M : Type 1} → statement M
 quickly-good-spec =

@@ -64,14 +64,18 @@ add-word-soon-after c = search needs
 
 word-soon-after-requires : tie.Need-word-soon-after-requires Inv-loop μ-loop
 word-soon-after-requires c κs =
-    let l = c .before .before .before .before .before .before .before .loop in
+    let at-if2 = c .before .before .before .before in
+    let l = at-if2 .before .before .before .loop in
     (omega (arith, l .inv .0 .back), (omega arith, (omega arith, (omega arith, (l .inv .1, c .eight .ensures)))))
 
 returns-5 : tie.Need-returns-5 Inv-loop μ-loop
 returns-5 c = λ h e. absurd (omega arith)
 
 add-k : tie.Need-add-k Inv-loop μ-loop
-add-k c = omega (arith, passed-few (c .before .before .before .before .before .before .before .before .before .loop .inv .0))
+add-k c =
+    let at-if4 = c .before .before .before in
+    let at-if2 = at-if4 .before .before .before in
+    omega (arith, passed-few (at-if2 .before .before .before .loop .inv .0))
 
 add-from : tie.Need-add-from Inv-loop μ-loop
 add-from c = search needs
@@ -87,9 +91,20 @@ loop-less c = search needs
 
 loop-again : tie.Need-loop-again Inv-loop μ-loop
 loop-again c =
-    let l = c .before .before .before .before .before .before .before .before .before .loop in (
-      passed-on (c .before .before .before .before .before .before .before .before .before .before .before .before .before .args .s .now) (l .from) (l .i) (l .k) (l .inv .0) record { here = omega arith; some = omega arith; few = omega arith; command = omega arith; after = c .before .word-soon-after .ensures (not-false _ (c .if5 .left)) },
-      c .before .before .eight .ensures,
+    let at-eight = c .before .before in
+    let at-if2 = at-eight .before .before .before .before in
+    let at-loop = at-if2 .before .before .before in
+    let l = at-loop .loop in (
+      passed-on (at-loop .before .before .before .before .args .s .now) (l .from) (l .i) (l .k)
+          (l .inv .0) record {
+            here = omega arith;
+            some = omega arith;
+            few = omega arith;
+            command = omega arith;
+            after = c .before .word-soon-after .ensures
+                (not-false _ (c .if5 .left));
+          },
+      at-eight .eight .ensures,
     )
 
 last-rows-requires-2 : tie.Need-last-rows-requires-2 Inv-loop μ-loop

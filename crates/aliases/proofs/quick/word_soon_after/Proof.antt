@@ -23,12 +23,17 @@ shr-result-2 c = search needs
 returns : tie.Need-returns
 returns c =
     let a = c .before .before .args in
-    λ h. number-short (a .s .now) (λ i. omega (arith, c .before .shared-slice-known .given i)) (a .n) (a .from) (a .at) (omega arith) (rw (c .before .before .pre .1 .1 .1 .1 .0, c .before .before .pre .1 .1 .1 .1 .1) at (ltb-true (a .x / 2 ^ (64 - 8 * a .n)) (a .y / 2 ^ (64 - 8 * a .n)) h))
+    λ h. number-short (a .s .now) (λ i. omega (arith, c .before .shared-slice-known .given i)) (a .n) (a .from) (a .at) (omega arith)
+    (rw (c .before .before .pre .1 .1 .1 .1 .0, c .before .before .pre .1 .1 .1 .1 .1) at (ltb-true (a .x / 2 ^ (64 - 8 * a .n))
+    (a .y / 2 ^ (64 - 8 * a .n)) h))
 
 returns-2 : tie.Need-returns-2
 returns-2 c =
-    let a = c .before .before .before .args in
-    λ h. earlier-more (a .s .now) (a .from) (a .at) 8 (a .n) (omega arith) (number-less (a .s .now) (λ i. omega (arith, c .before .before .shared-slice-known .given i)) 8 (a .from) (a .at) 0 (omega (arith, c .if2 .taken, c .before .before .before .pre .1 .1 .1 .1 .0, c .before .before .before .pre .1 .1 .1 .1 .1)))
+    let entry = c .before .before .before in
+    let a = entry .args in
+    λ h. earlier-more (a .s .now) (a .from) (a .at) 8 (a .n) (omega arith) (number-less (a .s .now)
+    (λ i. omega (arith, c .before .before .shared-slice-known .given i)) 8 (a .from)
+    (a .at) 0 (omega (arith, c .if2 .taken, entry .pre .1 .1 .1 .1 .0, entry .pre .1 .1 .1 .1 .1)))
 
 bytes-after-requires : tie.Need-bytes-after-requires
 bytes-after-requires c κs = search needs

@@ -43,11 +43,15 @@ returns c =
     sym (l .inv .1 ∙ sum-none _ _ _ (sym (ap isSign (l .inv .0)) ∙ sym (c .before .is-sign .ensures) ∙ not-true _ (c .if1 .taken)))
 
 -- a sign stands at i
-signed : (c : tie.Else1 Inv-loop μ-loop) → isSign (getD (c .before .before .before .before .before .before .args .s .now) (c .before .before .loop .i) 0) ≡ true
+signed : (c : tie.Else1 Inv-loop μ-loop) →
+    let at-loop = c .before .before in
+    isSign (getD (at-loop .before .before .before .before .args .s .now) (at-loop .loop .i) 0) ≡ true
 signed c = sym (ap isSign (c .before .before .loop .inv .0)) ∙ sym (c .before .is-sign .ensures) ∙ not-false _ (c .if1 .left)
 
 add-offset-at : tie.Need-add-offset-at Inv-loop μ-loop
-add-offset-at c = omega (arith, sign-inside (c .before .before .before .before .before .before .args .s .now) (c .before .before .loop .i) (signed c))
+add-offset-at c =
+    let at-loop = c .before .before in
+    omega (arith, sign-inside (at-loop .before .before .before .before .args .s .now) (at-loop .loop .i) (signed c))
 
 offset-at-requires : tie.Need-offset-at-requires Inv-loop μ-loop
 offset-at-requires c κs = search needs
@@ -61,18 +65,23 @@ enum-told c = search needs
 returns-2 : tie.Need-returns-2 Inv-loop μ-loop
 unfolding sumOf
 returns-2 c =
-    let s = c .before .before .before .before .before .before .before .before .before .args .s .now in
-    let l = c .before .before .before .before .before .loop in
-    let t = signed (c .before .before .before) in
-    sym (l .inv .1 ∙ sum-large (Sum.Is (l .d) (l .n)) s (l .i) (sign-inside s (l .i) t) t (offset-large s (l .i + 1) (sym (c .before .before .offset-at .ensures) ∙ c .enum-told .given .1)))
+    let at-if1 = c .before .before .before in
+    let at-loop = at-if1 .before .before in
+    let s = at-loop .before .before .before .before .args .s .now in
+    let l = at-loop .loop in
+    let t = signed at-if1 in
+    sym (l .inv .1 ∙ sum-large (Sum.Is (l .d) (l .n)) s (l .i)
+    (sign-inside s (l .i) t) t (offset-large s (l .i + 1) (sym (c .before .before .offset-at .ensures) ∙ c .enum-told .given .1)))
 
 add-is-requires : tie.Need-add-is-requires Inv-loop μ-loop
 add-is-requires c κs = search needs
 
 -- the offset at i is passed
 passed : (c : tie.After-known-told Inv-loop μ-loop) →
-    let s = c .before .before .before .before .before .before .before .before .before .before .args .s .now in
-    let l = c .before .before .before .before .before .before .loop in
+    let at-if1 = c .before .before .before .before in
+    let at-loop = at-if1 .before .before in
+    let s = at-loop .before .before .before .before .args .s .now in
+    let l = at-loop .loop in
     let o = c .before .k .given .0 in
     Passed s (l .i) (o .0) (o .1 .0) (o .1 .1 .0) (sumAt (Sum.Is (l .d) (l .n)) s (l .i)) (λ m k. sumAt (addTo (Sum.Is (l .d) (l .n)) (eqb (getD s (l .i) 0) 0x2B) m) s k)
 passed c =
@@ -80,12 +89,17 @@ passed c =
 
 -- the sum of all, by the sum up to the offset and the offset
 added : (c : tie.After-known-told Inv-loop μ-loop) →
-    let a = c .before .before .before .before .before .before .before .before .before .before .args in
-    let l = c .before .before .before .before .before .before .loop in
+    let at-if1 = c .before .before .before .before in
+    let at-loop = at-if1 .before .before in
+    let a = at-loop .before .before .before .before .args in
+    let l = at-loop .loop in
     let o = c .before .k .given .0 in
     sumAt (Sum.Is MoveDir1D.Next 0) (a .s .now) (a .at) ≡ sumAt (addIs (l .d) (l .n) (eqb (l .b) 0x2B) (o .0)) (a .s .now) (o .1 .0)
 unfolding addTo
-added c = let l = c .before .before .before .before .before .before .loop in rw (l .inv .0) (l .inv .1 ∙ passed c .goes)
+added c =
+    let at-if1 = c .before .before .before .before in
+    let l = at-if1 .before .before .loop in
+    rw (l .inv .0) (l .inv .1 ∙ passed c .goes)
 
 enum-known-e : tie.Need-enum-known-e Inv-loop μ-loop
 enum-known-e c = search needs

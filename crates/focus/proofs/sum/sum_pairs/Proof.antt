@@ -45,7 +45,13 @@ sub-last : tie.Need-sub-last Inv-loop μ-loop
 sub-last c = omega arith
 
 loop-holds : tie.Need-loop-holds Inv-loop μ-loop
-loop-holds c = (omega arith, c .before .before .before .byte-at .ensures, sym (ap isSign (c .before .before .before .byte-at .ensures)) ∙ sym (c .before .is-sign .ensures) ∙ not-false _ (c .if2 .left), refl)
+loop-holds c =
+    let at-byte-at = c .before .before .before in (
+      omega arith,
+      at-byte-at .byte-at .ensures,
+      sym (ap isSign (at-byte-at .byte-at .ensures)) ∙ sym (c .before .is-sign .ensures) ∙ not-false _ (c .if2 .left),
+      refl,
+    )
 
 add-c : tie.Need-add-c Inv-loop μ-loop
 add-c c = omega arith
@@ -74,10 +80,18 @@ unfolding sumOf
 returns-4 c = search needs
 
 -- a digit stands at i + 1, and a sign behind it
-digit : (c : tie.Else4 Inv-loop μ-loop) → isDigit (getD (c .before .before .before .before .before .before .before .before .before .before .before .before .before .args .s .now) (c .before .before .before .before .before .before .before .loop .i + 1) 0) ≡ true
+digit : (c : tie.Else4 Inv-loop μ-loop) →
+    let at-is-digit = c .before .before .before .before in
+    let at-loop = at-is-digit .before .before .before in
+    let at-byte-at = at-loop .before .before .before .before in
+    isDigit (getD (at-byte-at .before .before .args .s .now) (at-loop .loop .i + 1) 0) ≡ true
 digit c = sym (c .before .before .before .before .is-digit .ensures) ∙ not-false _ (c .before .before .before .if3 .left)
 
-sign : (c : tie.Else4 Inv-loop μ-loop) → isSign (getD (c .before .before .before .before .before .before .before .before .before .before .before .before .before .args .s .now) (c .before .before .before .before .before .before .before .loop .i + 2) 0) ≡ true
+sign : (c : tie.Else4 Inv-loop μ-loop) →
+    let at-is-digit = c .before .before .before .before in
+    let at-loop = at-is-digit .before .before .before in
+    let at-byte-at = at-loop .before .before .before .before in
+    isSign (getD (at-byte-at .before .before .args .s .now) (at-loop .loop .i + 2) 0) ≡ true
 sign c = sym (c .before .is-sign2 .ensures) ∙ not-false _ (c .if4 .left)
 
 sub-add-is : tie.Need-sub-add-is Inv-loop μ-loop
@@ -108,9 +122,13 @@ loop-less c = omega arith
 loop-again : tie.Need-loop-again Inv-loop μ-loop
 unfolding addTo
 loop-again c =
-    let q = c .before .before .before .before in
-    let s = c .before .before .before .before .before .before .before .before .before .before .before .before .before .before .before .before .before .args .s .now in
-    let l = c .before .before .before .before .before .before .before .before .before .before .before .loop in
+    let at-if4 = c .before .before .before .before in
+    let at-is-digit = at-if4 .before .before .before .before in
+    let at-loop = at-is-digit .before .before .before in
+    let at-byte-at = at-loop .before .before .before .before in
+    let q = at-if4 in
+    let s = at-byte-at .before .before .args .s .now in
+    let l = at-loop .loop in
     let t = l .inv .2 in (
       l .inv .0,
       refl,

@@ -26,15 +26,19 @@ weight-requires : tie.Need-weight-requires
 weight-requires c κs = search needs
 
 rem-t7 : tie.Need-rem-t7
-rem-t7 c = rw (c .before .before .before .before .before .before .before .orders-of .ensures) (orders-some _)
+rem-t7 c =
+    let written = c .before .before .before in
+    rw (written .before .before .before .before .orders-of .ensures) (orders-some _)
 
 returns : tie.Need-returns
 returns c =
-    let a = c .before .before .before .before .before .before .before .before .args in
+    let found = c .before .before .before .before in
+    let counted = found .before .before .before in
+    let a = counted .before .args in
     let l : length (a .p .order) ≡ 5 = search needs in
     picked-as _ _ _ _ _ _ _
-    (c .before .before .before .before .before .before .before .orders-of .ensures)
-    (c .before .before .before .before .before .free .ensures)
+    (counted .orders-of .ensures)
+    (found .before .free .ensures)
     (c .before .before .weight .ensures)
     (⊎-elim (λ w. w .1) (λ w. w .1 ∙ sym (set-out (a .p .order) _ _ (omega (arith, l, w .0 .left)))) (c .before .before .before .if1 .came))
 

@@ -39,7 +39,9 @@ is-digit-requires-2 : tie.Need-is-digit-requires-2
 is-digit-requires-2 c κs = search needs
 
 sub-t10 : tie.Need-sub-t10
-sub-t10 c = omega (arith, digital _ (first (c .before .before .before)), c .before .before .before .before .before .byte-at .ensures)
+sub-t10 c =
+    let at-if1 = c .before .before .before in
+    omega (arith, digital _ (first at-if1), at-if1 .before .before .byte-at .ensures)
 
 cast-t11 : tie.Need-cast-t11
 cast-t11 c = search needs
@@ -47,9 +49,10 @@ cast-t11 c = search needs
 returns-2 : tie.Need-returns-2
 unfolding offsetAt offsetOf
 returns-2 c =
-    rw (c .before .before .before .before .before .byte-at .ensures, c .before .before .byte-at2 .ensures)
+    let at-if1 = c .before .before .before in
+    rw (at-if1 .before .before .byte-at .ensures, c .before .before .byte-at2 .ensures)
     (ap (offsetOf _ _)
-    (digits-one _ _ (first (c .before .before .before))
+    (digits-one _ _ (first at-if1)
     (sym (ap isDigit (c .before .before .byte-at2 .ensures)) ∙ sym (c .before .is-digit2 .ensures) ∙ not-true _ (c .if2 .taken))))
 
 many-digits-requires : tie.Need-many-digits-requires
@@ -77,7 +80,10 @@ returns-4 c = ap (offsetOf _ _) (sym (sym (c .before .before .many-digits .ensur
 
 returns-5 : tie.Need-returns-5
 unfolding offsetAt offsetOf
-returns-5 c = rw (c .before .before .before .before .before .before .before .before .byte-at .ensures) (ap (offsetOf _ _) (sym (sym (c .before .before .many-digits .ensures) ∙ c .enum-told2 .given .1)))
+returns-5 c =
+    let at-is-digit2 = c .before .before .before .before in
+    rw (at-is-digit2 .before .before .before .before .byte-at .ensures)
+    (ap (offsetOf _ _) (sym (sym (c .before .before .many-digits .ensures) ∙ c .enum-told2 .given .1)))
 
 pub offset-at-spec : {M : Type 1} → statement M
 offset-at-spec =

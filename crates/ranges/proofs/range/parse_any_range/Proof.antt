@@ -33,7 +33,13 @@ parse-range-sep-requires c κs = search needs
 
 add-parse-range-ending : tie.Need-add-parse-range-ending
 add-parse-range-ending c =
-    omega (arith, parted-inside (c .before .before .before .before .before .before .before .before .before .args .s .now) _ _ (sym (c .before .before .before .byte-at .ensures)) (sym (c .before .before .parts .ensures) ∙ c .before .if1 .taken))
+    let at-byte-at = c .before .before .before in
+    let at-parse-range-ending = at-byte-at .before .before .before .before in
+    omega (
+      arith,
+      parted-inside (at-parse-range-ending .before .before .args .s .now) _ _ (sym (at-byte-at .byte-at .ensures))
+          (sym (c .before .before .parts .ensures) ∙ c .before .if1 .taken),
+    )
 
 parse-range-ending-requires-2 : tie.Need-parse-range-ending-requires-2
 parse-range-ending-requires-2 c κs = search needs
@@ -44,9 +50,11 @@ double-requires c κs = search needs
 returns-2 : tie.Need-returns-2
 unfolding rangeAt afterFirst
 returns-2 c =
+    let at-parts = c .before .before .before .before in
+    let at-l = at-parts .before .before .before in
     let d = rw (c .before .parse-range-ending2 .ensures, c .before .before .parse-range-sep .ensures) at (c .double .ensures) in
-    rw (sym (c .before .before .before .before .before .before .before .before .before .parse-range-ending .ensures) ∙ c .before .before .before .before .before .before .before .l .given .1)
-    (d ∙ parted _ _ _ _ _ (c .before .before .before .before .before .byte-at .ensures) (sym (c .before .before .before .before .parts .ensures) ∙ c .before .before .before .if1 .taken))
+    rw (sym (at-l .before .before .parse-range-ending .ensures) ∙ at-l .l .given .1)
+    (d ∙ parted _ _ _ _ _ (at-parts .before .byte-at .ensures) (sym (at-parts .parts .ensures) ∙ c .before .before .before .if1 .taken))
 
 ending-again-requires : tie.Need-ending-again-requires
 ending-again-requires c κs = search needs
@@ -54,21 +62,23 @@ ending-again-requires c κs = search needs
 returns-3 : tie.Need-returns-3
 unfolding rangeAt afterFirst
 returns-3 c =
+    let at-byte-at = c .before .before .before in
     rw (
-      sym (c .before .before .before .before .before .before .before .parse-range-ending .ensures) ∙ c .before .before .before .before .before .l .given .1,
+      sym (at-byte-at .before .before .before .before .parse-range-ending .ensures) ∙ at-byte-at .before .before .l .given .1,
       eq-eqb _ _ (c .if2 .taken),
     )
-    (unparted _ _ _ _ _ (c .before .before .before .byte-at .ensures) (sym (c .before .before .parts .ensures) ∙ c .before .if1 .left))
+    (unparted _ _ _ _ _ (at-byte-at .byte-at .ensures) (sym (c .before .before .parts .ensures) ∙ c .before .if1 .left))
 
 returns-4 : tie.Need-returns-4
 unfolding rangeAt afterFirst
 returns-4 c =
+    let at-byte-at = c .before .before .before .before in
     rw (
       c .ending-again .ensures,
-      sym (c .before .before .before .before .before .before .before .before .parse-range-ending .ensures) ∙ c .before .before .before .before .before .before .l .given .1,
+      sym (at-byte-at .before .before .before .before .parse-range-ending .ensures) ∙ at-byte-at .before .before .l .given .1,
       ne-eqb _ _ (c .before .if2 .left),
     )
-    (unparted _ _ _ _ _ (c .before .before .before .before .byte-at .ensures) (sym (c .before .before .before .parts .ensures) ∙ c .before .before .if1 .left))
+    (unparted _ _ _ _ _ (at-byte-at .byte-at .ensures) (sym (c .before .before .before .parts .ensures) ∙ c .before .before .if1 .left))
 
 pub parse-any-range-spec : {M : Type 1} → statement M
 parse-any-range-spec =

@@ -37,21 +37,41 @@ parse-range-sign-requires c κs = search needs
 
 returns : tie.Need-returns
 unfolding atomAt numberOr
-returns c = rw (sym (c .before .before .before .digits .ensures ∙ ap (λ x. digitsAt x (c .before .before .before .before .before .before .args .at)) (c .before .before .before .before .text-again .ensures)) ∙ c .before .n .given .1)
+returns c =
+    let at-text-again = c .before .before .before .before in
+    rw (sym (c .before .before .before .digits .ensures ∙ ap (λ x. digitsAt x (at-text-again .before .before .args .at)) (at-text-again .text-again .ensures))
+    ∙ c .before .n .given .1)
 
 returns-2 : tie.Need-returns-2
 unfolding atomAt numberOr
-returns-2 c = rw (sym (c .before .before .digits .ensures ∙ ap (λ x. digitsAt x (c .before .before .before .before .before .args .at)) (c .before .before .before .text-again .ensures)) ∙ c .enum-told .given .1)
+returns-2 c =
+    let at-text-again = c .before .before .before in
+    rw (sym (c .before .before .digits .ensures ∙ ap (λ x. digitsAt x (at-text-again .before .before .args .at)) (at-text-again .text-again .ensures))
+    ∙ c .enum-told .given .1)
 
 returns-3 : tie.Need-returns-3
 unfolding atomAt numberOr
-returns-3 c = rw (sym (c .before .before .before .before .before .before .digits .ensures ∙ ap (λ x. digitsAt x (c .before .before .before .before .before .before .before .before .before .args .at)) (c .before .before .before .before .before .before .before .text-again .ensures)) ∙ c .before .before .before .before .enum-told2 .given .1, c .parse-range-sign .ensures, c .before .byte-at .ensures)
+returns-3 c =
+    let at-enum-told2 = c .before .before .before .before in
+    let at-text-again = at-enum-told2 .before .before .before in
+    rw (
+      sym (at-enum-told2 .before .before .digits .ensures ∙ ap (λ x. digitsAt x (at-text-again .before .before .args .at))
+          (at-text-again .text-again .ensures)) ∙ at-enum-told2 .enum-told2 .given .1,
+      c .parse-range-sign .ensures,
+      c .before .byte-at .ensures,
+    )
 
 returns-4 : tie.Need-returns-4
 unfolding atomAt numberOr signAtom
 returns-4 c =
-    let s = c .before .before .before .before .before .before .args .s .now in
-    rw (sym (c .before .before .before .digits .ensures ∙ ap (λ x. digitsAt x (c .before .before .before .before .before .before .args .at)) (c .before .before .before .before .text-again .ensures)) ∙ c .before .enum-told2 .given .1, List·getD-eq-default s 0 (c .if1 .left))
+    let at-text-again = c .before .before .before .before in
+    let entry = at-text-again .before .before in
+    let s = entry .args .s .now in
+    rw (
+      sym (c .before .before .before .digits .ensures ∙ ap (λ x. digitsAt x (entry .args .at)) (at-text-again .text-again .ensures))
+          ∙ c .before .enum-told2 .given .1,
+      List·getD-eq-default s 0 (c .if1 .left),
+    )
 
 pub parse-range-atom-spec : {M : Type 1} → statement M
 parse-range-atom-spec =

@@ -38,11 +38,25 @@ enum-told-2 c = search needs
 
 returns : tie.Need-returns
 unfolding endingAt afterAtom
-returns c = rw (sym (c .before .before .before .before .before .parse-range-atom .ensures) ∙ c .before .before .before .enum-told .given .1, c .with-offsets .ensures, c .before .parse-range-modifiers .ensures, c .before .before .text-again .ensures)
+returns c =
+    let at-enum-told = c .before .before .before in
+    rw (
+      sym (at-enum-told .before .before .parse-range-atom .ensures) ∙ at-enum-told .enum-told .given .1,
+      c .with-offsets .ensures,
+      c .before .parse-range-modifiers .ensures,
+      c .before .before .text-again .ensures,
+    )
 
 returns-2 : tie.Need-returns-2
 unfolding endingAt afterAtom
-returns-2 c = rw (sym (c .before .before .before .before .before .before .parse-range-atom .ensures) ∙ c .before .before .before .before .a .given .1, c .with-offsets2 .ensures, c .before .parse-range-modifiers2 .ensures, c .before .before .text-again2 .ensures)
+returns-2 c =
+    let at-a = c .before .before .before .before in
+    rw (
+      sym (at-a .before .before .parse-range-atom .ensures) ∙ at-a .a .given .1,
+      c .with-offsets2 .ensures,
+      c .before .parse-range-modifiers2 .ensures,
+      c .before .before .text-again2 .ensures,
+    )
 
 returns-3 : tie.Need-returns-3
 unfolding endingAt afterAtom

@@ -37,11 +37,15 @@ returns c =
     sym (l .inv .1 ∙ offsetsAt-none _ _ (sym (ap isSign (l .inv .0)) ∙ sym (c .before .is-sign .ensures) ∙ not-true _ (c .if1 .taken)))
 
 -- a sign stands at i
-signed : (c : tie.Else1 Inv-loop μ-loop) → isSign (getD (c .before .before .before .before .before .before .args .s .now) (c .before .before .loop .i) 0) ≡ true
+signed : (c : tie.Else1 Inv-loop μ-loop) →
+    let at-loop = c .before .before in
+    isSign (getD (at-loop .before .before .before .before .args .s .now) (at-loop .loop .i) 0) ≡ true
 signed c = sym (ap isSign (c .before .before .loop .inv .0)) ∙ sym (c .before .is-sign .ensures) ∙ not-false _ (c .if1 .left)
 
 add-offset-at : tie.Need-add-offset-at Inv-loop μ-loop
-add-offset-at c = omega (arith, sign-inside (c .before .before .before .before .before .before .args .s .now) (c .before .before .loop .i) (signed c))
+add-offset-at c =
+    let at-loop = c .before .before in
+    omega (arith, sign-inside (at-loop .before .before .before .before .args .s .now) (at-loop .loop .i) (signed c))
 
 offset-at-requires : tie.Need-offset-at-requires Inv-loop μ-loop
 offset-at-requires c κs = search needs
@@ -54,15 +58,20 @@ enum-told c = search needs
 
 returns-2 : tie.Need-returns-2 Inv-loop μ-loop
 returns-2 c =
-    let s = c .before .before .before .before .before .before .before .before .before .args .s .now in
-    let l = c .before .before .before .before .before .loop in
-    let t = signed (c .before .before .before) in
-    sym (l .inv .1 ∙ offsetsAt-large s (l .i) (sign-inside s (l .i) t) t (offset-large s (l .i + 1) (sym (c .before .before .offset-at .ensures) ∙ c .enum-told .given .1)))
+    let at-if1 = c .before .before .before in
+    let at-loop = at-if1 .before .before in
+    let s = at-loop .before .before .before .before .args .s .now in
+    let l = at-loop .loop in
+    let t = signed at-if1 in
+    sym (l .inv .1 ∙ offsetsAt-large s (l .i)
+    (sign-inside s (l .i) t) t (offset-large s (l .i + 1) (sym (c .before .before .offset-at .ensures) ∙ c .enum-told .given .1)))
 
 -- the offset at i is passed
 passed : (c : tie.After-known-told Inv-loop μ-loop) →
-    let s = c .before .before .before .before .before .before .before .before .before .before .args .s .now in
-    let i = c .before .before .before .before .before .before .loop .i in
+    let at-if1 = c .before .before .before .before in
+    let at-loop = at-if1 .before .before in
+    let s = at-loop .before .before .before .before .args .s .now in
+    let i = at-loop .loop .i in
     let o = c .before .j .given .0 in
     Passed s i (o .0) (o .1 .0) (o .1 .1 .0) (offsetsAt s i) (λ m k. offsetsAt s k)
 passed c =
@@ -72,7 +81,9 @@ loop-less : tie.Need-loop-less Inv-loop μ-loop
 loop-less c = omega (arith, passed c .later, passed c .within)
 
 loop-again : tie.Need-loop-again Inv-loop μ-loop
-loop-again c = (passed c .byte, c .before .before .before .before .before .before .loop .inv .1 ∙ passed c .goes)
+loop-again c =
+    let at-if1 = c .before .before .before .before in
+    (passed c .byte, at-if1 .before .before .loop .inv .1 ∙ passed c .goes)
 
 pub parse-range-modifiers-spec : {M : Type 1} → statement M
 parse-range-modifiers-spec =

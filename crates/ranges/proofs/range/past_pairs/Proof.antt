@@ -69,9 +69,12 @@ loop-less c = omega arith
 
 loop-again : tie.Need-loop-again Inv-loop μ-loop
 loop-again c =
-    let s = c .before .before .before .before .before .before .before .before .before .before .before .before .before .args .s .now in
-    let l = c .before .before .before .before .before .before .before .loop in
-    let d = sym (c .before .before .before .before .is-digit .ensures) ∙ not-false _ (c .before .before .before .if3 .left) in
+    let at-is-digit = c .before .before .before .before in
+    let at-loop = at-is-digit .before .before .before in
+    let at-if1 = at-loop .before .before .before .before in
+    let s = at-if1 .before .before .args .s .now in
+    let l = at-loop .loop in
+    let d = sym (at-is-digit .is-digit .ensures) ∙ not-false _ (c .before .before .before .if3 .left) in
     let e = sym (c .before .is-sign2 .ensures) ∙ not-false _ (c .if4 .left) in
     (l .inv .0, e, l .inv .2 ∙ offsetsAt-value s (l .i) _ _ (sign-inside s (l .i) (l .inv .1)) (l .inv .1) (pair-digit s (l .i) d e))
 

@@ -22,7 +22,15 @@ resize-by-requires c κs = search needs
 
 returns : tie.Need-returns
 unfolding resizeOf
-returns c = rw (c .resize-by .ensures, c .before .window-range-target .ensures, c .before .before .size-change .ensures, c .before .before .before .argument .ensures, c .before .before .before .before .axis .ensures)
+returns c =
+    let changed = c .before .before in
+    rw (
+      c .resize-by .ensures,
+      c .before .window-range-target .ensures,
+      changed .size-change .ensures,
+      changed .before .argument .ensures,
+      changed .before .before .axis .ensures,
+    )
 
 pub vim-cmd-resize-spec : {M : Type 1} → statement M
 vim-cmd-resize-spec =

@@ -23,7 +23,8 @@ part-requires c κs = search needs
 
 put-action-requires : tie.Need-put-action-requires
 put-action-requires c κs =
-    let p = c .before .before .before .before .before .before .before in
+    let at-match = c .before .before .before .before in
+    let p = at-match .before .before .before in
     (search needs, rw (c .part .ensures) (omega (arith, p .pre .1, part-short (p .args .line .now) (p .args .a) (p .args .e))))
 
 enum-known-x-2 : tie.Need-enum-known-x-2
@@ -38,11 +39,13 @@ same-length c = search needs
 returns : tie.Need-returns
 unfolding doneAt outNo outBytes recordOf
 returns c =
-    let p = c .before .before .before .before .before .before .before .before .before .before in
-    let o = Out.act (paperOf (partOf (p .args .line .now) (p .args .a) (p .args .e)) (c .before .before .before .before .before .before .x .given .0 .0)) in
+    let at-part = c .before .before .before in
+    let at-x = at-part .before .before .before in
+    let p = at-x .before .before .before .before in
+    let o = Out.act (paperOf (partOf (p .args .line .now) (p .args .a) (p .args .e)) (at-x .x .given .0 .0)) in
     let n = part-short (p .args .line .now) (p .args .a) (p .args .e) in
-    let w = rw (c .before .before .before .part .ensures) at (c .before .before .put-action .ensures) in
-    rw (c .before .before .before .before .before .before .x .given .1) (end-answer o _ (w .put), (end-store o (w .put) (omega (arith, w .most, p .pre .1, n)), put-length (w .put)))
+    let w = rw (at-part .part .ensures) at (c .before .before .put-action .ensures) in
+    rw (at-x .x .given .1) (end-answer o _ (w .put), (end-store o (w .put) (omega (arith, w .most, p .pre .1, n)), put-length (w .put)))
 
 returns-2 : tie.Need-returns-2
 unfolding doneAt storeAfter atFront outBytes

@@ -17,8 +17,11 @@ same-length c = search needs
 returns : tie.Need-returns
 unfolding outNo outBytes
 returns c =
-    let w = c .before .before .put-nothing .ensures in
-    (end-answer Out.nothing _ (w .put), (end-store Out.nothing (w .put) (omega (arith, w .most, c .before .before .before .before .before .pre)), put-length (w .put)))
+    let at-put-nothing = c .before .before in
+    let w = at-put-nothing .put-nothing .ensures in (
+      end-answer Out.nothing _ (w .put),
+      (end-store Out.nothing (w .put) (omega (arith, w .most, at-put-nothing .before .before .before .pre)), put-length (w .put)),
+    )
 
 pub end-nothing-spec : {M : Type 1} → statement M
 end-nothing-spec = tie.close (tie.spec put-nothing-requires same-length returns)

@@ -30,7 +30,8 @@ returns : tie.Need-returns
 unfolding outNo outBytes
 returns c =
     let named = c .before .before .before in
-    let p = named .before .before .before .before .before in
+    let start = named .before .before in
+    let p = start .before .before .before in
     let line = p .args .line .now in
     let v = partOf line (p .args .a) (p .args .e) in
     let h = rw (named .before .part .ensures) at (named .put-name .ensures) in

@@ -35,12 +35,13 @@ enum-told-2 c = search needs
 returns-2 : tie.Need-returns-2
 unfolding decideOf byReading
 returns-2 c =
+    let at-if1 = c .before .before .before in
     rw (
       c .by-name .ensures,
       c .before .lookup-in .ensures,
       c .before .before .part .ensures,
-      sym (c .before .before .before .before .before .before .before .parse-cmd-descr .ensures) ∙ c .before .before .before .before .before .d .given .1,
-      ne-eqb _ _ (c .before .before .before .if1 .left),
+      sym (at-if1 .before .before .before .before .parse-cmd-descr .ensures) ∙ at-if1 .before .before .d .given .1,
+      ne-eqb _ _ (at-if1 .if1 .left),
     )
 
 returns-3 : tie.Need-returns-3

@@ -38,15 +38,17 @@ loop-less c = search needs
 
 loop-again : tie.Need-loop-again Inv-loop μ-loop
 loop-again c =
-    let a = c .before .before .before .before .before .args in
-    let l = c .before .before .before .loop in
+    let at-loop = c .before .before .before in
+    let entry = at-loop .before .before in
+    let a = entry .args in
+    let l = at-loop .loop in
     let n : a .at + (l .i + 1) ≡ a .at + l .i + 1 = omega arith in (
       omega arith,
       λ h.
           let e = c .still-zero .ensures h in
           rw n
           (zeros-join (a .s .now) (a .at) (a .at + l .i) (a .at + l .i + 1) (l .inv .1 (e .0))
-          (zeros-one (a .s .now) (a .at + l .i) (omega (arith, c .before .before .before .before .before .pre)) (e .1))),
+          (zeros-one (a .s .now) (a .at + l .i) (omega (arith, entry .pre)) (e .1))),
     )
 
 returns : tie.Need-returns Inv-loop μ-loop

@@ -35,15 +35,18 @@ is-digit-requires-2 : tie.Need-is-digit-requires-2
 is-digit-requires-2 c κs = search needs
 
 sub-t8 : tie.Need-sub-t8
-sub-t8 c = omega (arith, digital _ (first (c .before .before .before)), c .before .before .before .before .before .byte-at .ensures)
+sub-t8 c =
+    let at-if1 = c .before .before .before in
+    omega (arith, digital _ (first at-if1), at-if1 .before .before .byte-at .ensures)
 
 cast-t9 : tie.Need-cast-t9
 cast-t9 c = search needs
 
 returns-2 : tie.Need-returns-2
 returns-2 c =
-    rw (c .before .before .before .before .before .byte-at .ensures)
-    (digits-one _ _ (first (c .before .before .before))
+    let at-if1 = c .before .before .before in
+    rw (at-if1 .before .before .byte-at .ensures)
+    (digits-one _ _ (first at-if1)
     (sym (ap isDigit (c .before .before .byte-at2 .ensures)) ∙ sym (c .before .is-digit2 .ensures) ∙ not-true _ (c .if2 .taken)))
 
 many-digits-requires : tie.Need-many-digits-requires

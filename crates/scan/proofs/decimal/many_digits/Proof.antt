@@ -37,17 +37,20 @@ number-requires c κs = search needs
 
 returns : tie.Need-returns Inv-loop μ-loop
 returns c =
-    let l = c .before .before .before .before .before .loop in
-    let t = sym (c .before .before .is-digit .ensures) ∙ not-true _ (c .before .if1 .taken) in
+    let at-is-digit = c .before .before in
+    let l = at-is-digit .before .before .before .loop in
+    let t = sym (at-is-digit .is-digit .ensures) ∙ not-true _ (c .before .if1 .taken) in
     c .number .ensures
     ∙ digits-done _ _ _ _ (l .inv .2 ∙ runAt-off _ _ _ (search needs) t) (l .inv .3 ∙ valueAt-off _ _ _ (search needs) t) (l .inv .1)
 
 passed : (c : tie.Else1 Inv-loop μ-loop) →
-    isDigit (getD (c .before .before .before .before .before .before .before .args .s .now) (c .before .before .before .before .loop .i) 0) ≡ true
+    let at-loop = c .before .before .before .before in
+    isDigit (getD (at-loop .before .before .before .args .s .now) (at-loop .loop .i) 0) ≡ true
 passed c = sym (c .before .is-digit .ensures) ∙ not-false _ (c .if1 .left)
 
 here : (c : tie.Else1 Inv-loop μ-loop) →
-    Digital (getD (c .before .before .before .before .before .before .before .args .s .now) (c .before .before .before .before .loop .i) 0)
+    let at-loop = c .before .before .before .before in
+    Digital (getD (at-loop .before .before .before .args .s .now) (at-loop .loop .i) 0)
 here c = digital _ (passed c)
 
 sub-d : tie.Need-sub-d Inv-loop μ-loop
@@ -61,9 +64,11 @@ too-large-requires c κs = omega (arith, here c)
 
 returns-2 : tie.Need-returns-2 Inv-loop μ-loop
 returns-2 c =
-    let l = c .before .before .before .before .before .before .loop in
-    let s = c .before .before .before .before .before .before .before .before .before .args .s .now in
-    let t = passed (c .before .before) in
+    let at-if1 = c .before .before in
+    let at-loop = at-if1 .before .before .before .before in
+    let l = at-loop .loop in
+    let s = at-loop .before .before .before .args .s .now in
+    let t = passed at-if1 in
     digits-over _ _
     (omega (arith, runAt-on isDigit s (l .i) (search needs) t, runAt-le isDigit s (l .i + 1)))
     (omega (
@@ -87,8 +92,9 @@ loop-less c = search needs
 
 loop-again : tie.Need-loop-again Inv-loop μ-loop
 loop-again c =
-    let l = c .before .before .before .before .before .before .loop in
-    let t = passed (c .before .before) in (
+    let at-if1 = c .before .before in
+    let l = at-if1 .before .before .before .before .loop in
+    let t = passed at-if1 in (
       search needs,
       c .before .too-large .ensures .1 (c .if2 .left),
       l .inv .2 ∙ runAt-on _ _ _ (search needs) t,

@@ -28,7 +28,9 @@ sub-if2 : tie.Need-sub-if2 Inv-loop μ-loop
 sub-if2 c = search needs
 
 all-zero-requires : tie.Need-all-zero-requires Inv-loop μ-loop
-all-zero-requires c κs = omega (arith, leb-true 32 (length (c .before .before .before .before .before .before .args .s .now) - c .before .before .loop .i) (c .if2 .taken), c .before .loop-test .taken)
+all-zero-requires c κs =
+    let at-loop = c .before .before in
+    omega (arith, leb-true 32 (length (at-loop .before .before .before .before .args .s .now) - at-loop .loop .i) (c .if2 .taken), c .before .loop-test .taken)
 
 returns-2 : tie.Need-returns-2 Inv-loop μ-loop
 returns-2 c = search needs

@@ -25,7 +25,12 @@ two-at-requires-2 c κs = search needs
 
 returns-3 : tie.Need-returns-3
 unfolding sound
-returns-3 c = rw (eq-eqb _ _ (c .before .before .before .before .if1 .left), le-leb _ _ (rw (c .before .before .before .two-at .ensures .0) at (c .before .before .if2 .left)), lt-leb _ _ (rw (c .before .two-at2 .ensures .0) at (c .if3 .taken)))
+returns-3 c =
+    rw (
+      eq-eqb _ _ (c .before .before .before .before .if1 .left),
+      le-leb _ _ (rw (c .before .before .before .two-at .ensures .0) at (c .before .before .if2 .left)),
+      lt-leb _ _ (rw (c .before .two-at2 .ensures .0) at (c .if3 .taken)),
+    )
 
 remembered-requires : tie.Need-remembered-requires
 remembered-requires c κs = search needs
@@ -35,7 +40,14 @@ is-utf8-requires c κs = search needs
 
 returns-4 : tie.Need-returns-4
 unfolding sound
-returns-4 c = rw (eq-eqb _ _ (c .before .before .before .before .before .before .before .if1 .left), le-leb _ _ (rw (c .before .before .before .before .before .before .two-at .ensures .0) at (c .before .before .before .before .before .if2 .left)), le-leb _ _ (rw (c .before .before .before .before .two-at2 .ensures .0) at (c .before .before .before .if3 .left)), sym (c .before .is-utf8 .ensures ∙ ap isUtf8 (c .before .before .remembered .ensures)) ∙ not-true _ (c .if4 .taken))
+returns-4 c =
+    let at-two-at2 = c .before .before .before .before in
+    rw (
+      eq-eqb _ _ (at-two-at2 .before .before .before .if1 .left),
+      le-leb _ _ (rw (at-two-at2 .before .before .two-at .ensures .0) at (at-two-at2 .before .if2 .left)),
+      le-leb _ _ (rw (at-two-at2 .two-at2 .ensures .0) at (c .before .before .before .if3 .left)),
+      sym (c .before .is-utf8 .ensures ∙ ap isUtf8 (c .before .before .remembered .ensures)) ∙ not-true _ (c .if4 .taken),
+    )
 
 area-requires : tie.Need-area-requires
 area-requires c κs = search needs
@@ -45,7 +57,16 @@ good-requires c κs = search needs
 
 returns-5 : tie.Need-returns-5
 unfolding sound
-returns-5 c = rw (c .good2 .ensures ∙ ap goodArea (c .before .area .ensures), eq-eqb _ _ (c .before .before .before .before .before .before .before .before .before .if1 .left), le-leb _ _ (rw (c .before .before .before .before .before .before .before .before .two-at .ensures .0) at (c .before .before .before .before .before .before .before .if2 .left)), le-leb _ _ (rw (c .before .before .before .before .before .before .two-at2 .ensures .0) at (c .before .before .before .before .before .if3 .left)), sym (c .before .before .before .is-utf8 .ensures ∙ ap isUtf8 (c .before .before .before .before .remembered .ensures)) ∙ not-false _ (c .before .before .if4 .left))
+returns-5 c =
+    let at-remembered = c .before .before .before .before in
+    let at-two-at = at-remembered .before .before .before .before in
+    rw (
+      c .good2 .ensures ∙ ap goodArea (c .before .area .ensures),
+      eq-eqb _ _ (at-two-at .before .if1 .left),
+      le-leb _ _ (rw (at-two-at .two-at .ensures .0) at (at-remembered .before .before .before .if2 .left)),
+      le-leb _ _ (rw (at-remembered .before .before .two-at2 .ensures .0) at (at-remembered .before .if3 .left)),
+      sym (c .before .before .before .is-utf8 .ensures ∙ ap isUtf8 (at-remembered .remembered .ensures)) ∙ not-false _ (c .before .before .if4 .left),
+    )
 
 pub sound-spec : {M : Type 1} → statement M
 sound-spec =

@@ -6,7 +6,7 @@ use lib.Seq.{sets}
 use borrow.Author.Tests.{eq-eqb, ne-eqb}
 use Rattle.store.specs.Splice.{put-length}
 use Rattle.aliases.specs.Rows.{rowsBytes}
-use Rattle.session.specs.Layout.{two, remembering, aliasing, written}
+use Rattle.session.specs.Layout.{areaCount, two, remembering, aliasing, written}
 use Rattle.session.specs.Lent.{freshNo, freshBytes}
 use borrow.Author.Needs.{needs}
 use Rattle.session.proofs.lent.fresh_in.Statement.{statement}
@@ -25,17 +25,23 @@ put-two-requires : tie.Need-put-two-requires
 put-two-requires c κs = (omega arith, record { fits = omega (arith, c .before .if1 .left) })
 
 put-two-requires-2 : tie.Need-put-two-requires-2
-put-two-requires-2 c κs = (omega arith, record { fits = omega (arith, c .before .before .before .before .before .if1 .left, put-length (c .before .before .before .put-two .ensures)) })
+put-two-requires-2 c κs =
+    let first = c .before .before .before in
+    (omega arith, record { fits = omega (arith, first .before .before .if1 .left, put-length (first .put-two .ensures)) })
 
 same-length : tie.Need-same-length
-same-length c = put-length (c .before .before .put-two2 .ensures) ∙ put-length (c .before .before .before .before .before .before .put-two .ensures)
+same-length c =
+    let second = c .before .before in
+    let first = second .before .before .before .before in
+    put-length (second .put-two2 .ensures) ∙ put-length (first .put-two .ensures)
 
 returns-2 : tie.Need-returns-2
 unfolding freshNo freshBytes written aliasing remembering rowsBytes
-returns-2 c = (
-  rw (eq-eqb _ _ (c .before .before .before .before .before .before .before .before .if1 .left)),
-  rw (eq-eqb _ _ (c .before .before .before .before .before .before .before .before .if1 .left)) (c .before .before .put-two2 .ensures .store ∙ ap (λ s. sets s 2 (two 0)) (c .before .before .before .before .before .before .put-two .ensures .store)),
-)
+returns-2 c =
+    let second = c .before .before in
+    let first = second .before .before .before .before in
+    let size = eq-eqb _ _ (first .before .before .if1 .left) in
+    (rw size, rw size (second .put-two2 .ensures .store ∙ ap (λ s. sets s areaCount (two 0)) (first .put-two .ensures .store)))
 
 pub fresh-in-spec : {M : Type 1} → statement M
 fresh-in-spec =

@@ -25,7 +25,8 @@ same-length c = search needs
 returns : tie.Need-returns
 returns c =
     let told = c .before .before in
-    let entry = told .before .before .before .before .before .before .before in
+    let start = told .before .before .before in
+    let entry = start .before .before .before .before in
     let a = entry .args in
     let x = line-99 (a .b .now) (a .line .now) (length (a .store .now)) (sym (told .sound .ensures) ∙ not-true _ (c .before .if1 .taken)) in
     (c .turned .ensures ∙ ap reply (sym (x .0)), (nothing-written _ _ ∙ ap (λ v. storeAfter (v .out) (a .store .now)) (sym (x .0)), sym (x .1)))
@@ -46,7 +47,8 @@ returns-2 c =
     let ran = c .before .before .before .before in
     let test = ran .before .before .before .before in
     let told = test .before in
-    let entry = told .before .before .before .before .before .before .before in
+    let start = told .before .before .before in
+    let entry = start .before .before .before .before in
     let a = entry .args in
     let x = line-on (a .b .now) (a .line .now) (length (a .store .now)) (sym (told .sound .ensures) ∙ not-false _ (test .if1 .left)) in
     let e = ran .line-on .ensures in

@@ -23,7 +23,8 @@ number-requires c κs = search needs
 returns : tie.Need-returns
 returns c =
     let told = c .before .before in
-    let a = told .before .before .before .before .before .args in
+    let start = told .before .before in
+    let a = start .before .before .before .args in
     rw (c .number .ensures) (read-back-99 (a .b .now) (a .store .now) (sym (told .sound .ensures) ∙ not-true _ (c .before .if1 .taken)))
 
 remembered-requires : tie.Need-remembered-requires
@@ -36,7 +37,8 @@ returns-2 : tie.Need-returns-2
 returns-2 c =
     let test = c .before .before .before in
     let told = test .before in
-    let a = told .before .before .before .before .before .args in
+    let start = told .before .before in
+    let a = start .before .before .before .args in
     let taken = sym (told .sound .ensures) ∙ not-false _ (test .if1 .left) in
     rw (c .number2 .ensures) (read-back-short (a .b .now) (a .store .now) taken (lt-leb _ _ (rw (c .before .before .remembered .ensures) at (c .before .if2 .taken))))
 
@@ -53,7 +55,8 @@ returns-3 c =
     let line = room .before in
     let test = line .before in
     let told = test .before in
-    let a = told .before .before .before .before .before .args in
+    let start = told .before .before in
+    let a = start .before .before .before .args in
     let fits = rw (line .remembered .ensures) at (room .if2 .left) in
     let p = rw (line .remembered .ensures) at (put .put-bytes .ensures) in
     let n : put .put-bytes .result ≡ length (lineOf (a .b .now)) = omega (arith, p .place) in

@@ -15,23 +15,37 @@ area-requires c κs = search needs
 
 run-requires : tie.Need-run-requires
 run-requires c κs =
-    let entry = c .before .before .before .before .before .before in
+    let start = c .before .before .before in
+    let entry = start .before .before .before in
     (entry .pre .0, omega (arith, lineRoom-long (entry .args .line .now), entry .pre .1 .1 .1))
 
 remember-requires : tie.Need-remember-requires
-remember-requires c κs = (c .before .before .before .before .before .before .before .before .before .before .pre .1 .1 .0, c .before .before .before .before .before .before .before .before .before .before .pre .1 .0)
+remember-requires c κs =
+    let at-run = c .before .before .before in
+    let at-slice-known2 = at-run .before .before .before .before in
+    let entry = at-slice-known2 .before .before .before in
+    (entry .pre .1 .1 .0, entry .pre .1 .0)
 
 same-length : tie.Need-same-length
-same-length c = ap length (c .before .before .remember .ensures) ∙ remember-size (c .before .before .before .before .before .before .before .before .before .before .before .before .before .args .line .now) (c .before .before .before .before .before .before .before .before .before .before .before .before .before .args .b .now)
+same-length c =
+    let at-remember = c .before .before in
+    let at-run = at-remember .before .before .before .before in
+    let at-slice-known2 = at-run .before .before .before .before in
+    let entry = at-slice-known2 .before .before .before in
+    ap length (at-remember .remember .ensures) ∙ remember-size (entry .args .line .now) (entry .args .b .now)
 
 same-length-2 : tie.Need-same-length-2
-same-length-2 c = c .before .before .before .before .before .before .run .ensures .1 .1
+same-length-2 c =
+    let at-remember = c .before .before in
+    at-remember .before .before .before .before .run .ensures .1 .1
 
 returns : tie.Need-returns
 unfolding sessionOf
 returns c =
-    let e = c .before .before .before .before .before .before .run .ensures in
-    rw (← c .before .before .before .before .before .before .before .before .area .ensures) (e .0, (e .1 .0, c .before .before .remember .ensures))
+    let at-slice-known3 = c .before .before .before .before in
+    let start = c .before .before .before in
+    let e = start .before .before .before .run .ensures in
+    rw (← at-slice-known3 .before .before .before .before .area .ensures) (e .0, (e .1 .0, c .before .before .remember .ensures))
 
 pub run-in-spec : {M : Type 1} → statement M
 run-in-spec =

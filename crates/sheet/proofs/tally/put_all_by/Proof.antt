@@ -28,8 +28,9 @@ loop-less c = search needs
 
 loop-again : tie.Need-loop-again Inv-loop μ-loop
 loop-again c =
-    let l = c .before .before .before .before .before .loop in
-    (behind-then (l .inv .0) (c .before .before .put-by-number .ensures), omega arith)
+    let put = c .before .before in
+    let l = put .before .before .before .loop in
+    (behind-then (l .inv .0) (put .put-by-number .ensures), omega arith)
 
 element-copy-out-put-others : tie.Need-element-copy-out-put-others Inv-loop μ-loop
 element-copy-out-put-others c = search needs

@@ -25,7 +25,16 @@ window-by-requires c κs = search needs
 
 returns : tie.Need-returns
 unfolding splitOf
-returns c = rw (c .window-by .ensures, c .before .open-target .ensures, c .before .before .window-size .ensures, c .before .before .before .with-open-flags .ensures, c .before .before .before .before .opening .ensures, c .before .before .before .before .before .argument .ensures)
+returns c =
+    let at-opening = c .before .before .before .before in
+    rw (
+      c .window-by .ensures,
+      c .before .open-target .ensures,
+      c .before .before .window-size .ensures,
+      c .before .before .before .with-open-flags .ensures,
+      at-opening .opening .ensures,
+      at-opening .before .argument .ensures,
+    )
 
 pub vim-cmd-sp-spec : {M : Type 1} → statement M
 vim-cmd-sp-spec =

@@ -22,7 +22,14 @@ tab-by-requires c κs = search needs
 
 returns : tie.Need-returns
 unfolding tabeditOf
-returns c = rw (c .tab-by .ensures, c .before .window-range-target .ensures, c .before .before .opening .ensures, c .before .before .before .open-target .ensures, c .before .before .before .before .argument .ensures)
+returns c =
+    rw (
+      c .tab-by .ensures,
+      c .before .window-range-target .ensures,
+      c .before .before .opening .ensures,
+      c .before .before .before .open-target .ensures,
+      c .before .before .before .before .argument .ensures,
+    )
 
 pub vim-cmd-tabedit-spec : {M : Type 1} → statement M
 vim-cmd-tabedit-spec =

@@ -22,7 +22,14 @@ switch-by-requires c κs = search needs
 
 returns : tie.Need-returns
 unfolding viewOf
-returns c = rw (c .switch-by .ensures, c .before .open-target .ensures, c .before .before .with-open-flags .ensures, c .before .before .before .viewing .ensures, c .before .before .before .before .argument .ensures)
+returns c =
+    rw (
+      c .switch-by .ensures,
+      c .before .open-target .ensures,
+      c .before .before .with-open-flags .ensures,
+      c .before .before .before .viewing .ensures,
+      c .before .before .before .before .argument .ensures,
+    )
 
 pub vim-cmd-view-spec : {M : Type 1} → statement M
 vim-cmd-view-spec =

@@ -132,21 +132,27 @@ returns-8 c =
 
 returns-9 : tie.Need-returns-9
 returns-9 c =
-    let w = c .before .before .before .before .before .args .w .now in
+    let at-shared-slice-known = c .before .before .before .before in
+    let w = at-shared-slice-known .before .args .w .now in
     c .word9 .ensures
-    ∙ long-found w 9 1 _ _ (all-bytes w (λ i. omega (arith, c .before .before .before .before .shared-slice-known .given i))) (c .before .before .before .match .keys9) (omega arith) (c .before .before .eight2 .ensures) (c .before .one2 .ensures .0)
+    ∙ long-found w 9 1 _ _ (all-bytes w (λ i. omega (arith, at-shared-slice-known .shared-slice-known .given i))) (c .before .before .before .match .keys9)
+    (omega arith) (c .before .before .eight2 .ensures) (c .before .one2 .ensures .0)
 
 returns-10 : tie.Need-returns-10
 returns-10 c =
-    let w = c .before .before .before .before .before .args .w .now in
+    let at-shared-slice-known = c .before .before .before .before in
+    let w = at-shared-slice-known .before .args .w .now in
     c .word10 .ensures
-    ∙ long-found w 10 2 _ _ (all-bytes w (λ i. omega (arith, c .before .before .before .before .shared-slice-known .given i))) (c .before .before .before .match .keys10) (omega arith) (c .before .before .eight3 .ensures) (c .before .two2 .ensures .0)
+    ∙ long-found w 10 2 _ _ (all-bytes w (λ i. omega (arith, at-shared-slice-known .shared-slice-known .given i))) (c .before .before .before .match .keys10)
+    (omega arith) (c .before .before .eight3 .ensures) (c .before .two2 .ensures .0)
 
 returns-11 : tie.Need-returns-11
 returns-11 c =
-    let w = c .before .before .before .before .before .args .w .now in
+    let at-shared-slice-known = c .before .before .before .before in
+    let w = at-shared-slice-known .before .args .w .now in
     c .word11 .ensures
-    ∙ long-found w 11 3 _ _ (all-bytes w (λ i. omega (arith, c .before .before .before .before .shared-slice-known .given i))) (c .before .before .before .match .keys11) (omega arith) (c .before .before .eight4 .ensures) (c .before .three2 .ensures .0)
+    ∙ long-found w 11 3 _ _ (all-bytes w (λ i. omega (arith, at-shared-slice-known .shared-slice-known .given i))) (c .before .before .before .match .keys11)
+    (omega arith) (c .before .before .eight4 .ensures) (c .before .three2 .ensures .0)
 
 returns-12 : tie.Need-returns-12
 returns-12 c =

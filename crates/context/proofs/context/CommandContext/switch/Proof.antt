@@ -35,7 +35,9 @@ returns-2 : tie.Need-returns-2
 returns-2 c = rw (c .split .ensures, c .before .enum-told2 .given .1, c .before .before .before .enum-told .given .1)
 
 returns-3 : tie.Need-returns-3
-returns-3 c = rw (c .split2 .ensures, c .before .enum-told4 .given .1, c .before .before .before .enum-told3 .given .1, c .before .before .before .before .before .enum-told .given .1)
+returns-3 c =
+    let at-enum-told3 = c .before .before .before in
+    rw (c .split2 .ensures, c .before .enum-told4 .given .1, at-enum-told3 .enum-told3 .given .1, at-enum-told3 .before .before .enum-told .given .1)
 
 returns-4 : tie.Need-returns-4
 returns-4 c = rw (c .enum-told5 .given .1, c .before .before .enum-told3 .given .1, c .before .before .before .before .enum-told .given .1)
