@@ -1,4 +1,5 @@
 // The line with its prefixes in every order, and how many orders agree with what the last prefixes say.
+use limits::LINE;
 use orders::order::orders_of;
 use orders::prefixes::Prefixes;
 use orders::prefixes::prefixes_of;
@@ -11,6 +12,9 @@ use wording::put::put_byte;
 use wording::put::put_decimal;
 use wording::put::put_quoted;
 use wording::put::put_text;
+
+// A line with five prefixes may gain five spaces.
+const LONGEST: usize = LINE - 5;
 
 // How far the orders are told, and how many agree.
 struct Orders {
@@ -82,17 +86,12 @@ fn put_found(out: &mut [u8], r: Report, line: &[u8], p: Prefixes) -> Report {
     put_all(out, r, line, p)
 }
 
-// A line with five prefixes may gain five spaces.
+// The orders of a line.
 pub fn put_orders(out: &mut [u8], r: Report, line: &[u8]) -> Report {
-    if 1019 < line.len() {
-        return up_to(
-            r,
-            put_text(
-                out,
-                r.at,
-                b"the line is longer than 1019 bytes: no orders\n",
-            ),
-        );
+    if LONGEST < line.len() {
+        let i = put_text(out, r.at, b"the line is longer than ");
+        let j = put_decimal(out, i, LONGEST as u64);
+        return up_to(r, put_text(out, j, b" bytes: no orders\n"));
     }
     if !is_utf8(line) {
         return up_to(

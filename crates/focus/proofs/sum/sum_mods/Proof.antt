@@ -111,7 +111,9 @@ returns-3 : tie.Need-returns-3 Inv-loop μ-loop
 unfolding sumOf
 returns-3 c =
     let q = c .before .before .before in
-    let s = q .before .before .before .before .before .before .before .before .before .before .args .s .now in
+    let at-if1 = q .before .before .before .before in
+    let at-loop = at-if1 .before .before in
+    let s = at-loop .before .before .before .before .args .s .now in
     let j = q .before .k .given .0 .1 .0 in
     sym
     (added q
@@ -124,7 +126,9 @@ loop-less c = let p = passed (c .before .before .before .before) in omega (arith
 loop-again : tie.Need-loop-again Inv-loop μ-loop
 loop-again c =
     let q = c .before .before .before .before in
-    let s = q .before .before .before .before .before .before .before .before .before .before .args .s .now in
+    let at-if1 = q .before .before .before .before in
+    let at-loop = at-if1 .before .before in
+    let s = at-loop .before .before .before .before .args .s .now in
     let j = q .before .k .given .0 .1 .0 in
     (passed q .byte, added q ∙ ap (λ (a : Sum). sumAt a s j) (sym (c .before .before .before .add-is .ensures) ∙ c .before .e .given .1))
 

@@ -1,8 +1,9 @@
 -- `replay::answer_list` is safe and ends.
 -- Assumes nothing.
 use mathlib.Core.Path.{_≡_}
-use Prim.Native.Nat.{_-_}
+use Prim.Native.Nat.{_+_, _-_}
 use lib.ListN.{length}
+use Rattle.limits.specs.Limits.{lineLimit}
 use borrow.Author.Needs.{needs}
 use Rattle.replay.proofs.readings.answer_list.Statement.{statement}
 use Rattle.replay.proofs.readings.answer_list.Tie as tie
@@ -11,7 +12,7 @@ abbrev Inv-loop : tie.InvT-loop
 Inv-loop op text out₀ t₀ place₀ out t place = length out ≡ length out₀
 
 abbrev μ-loop : tie.MeasureT-loop
-μ-loop op text out₀ t₀ place₀ out t place = 1025 - place
+μ-loop op text out₀ t₀ place₀ out t place = lineLimit + 1 - place
 
 loop-holds : tie.Need-loop-holds Inv-loop μ-loop
 loop-holds c = search needs

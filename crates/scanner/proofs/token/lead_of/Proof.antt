@@ -40,34 +40,37 @@ lead-left-requires c κs = search needs
 returns : tie.Need-returns
 unfolding leadOf leadRange isKind
 returns c =
+    let ranged = c .before .before .before in
     rw (
       c .lead-word .ensures,
-      ← c .before .before .before .before .before .before .skip-spaces .ensures,
-      ← c .before .before .before .before .before .run-end .ensures,
-      ← c .before .before .before .before .skip-spaces2 .ensures,
-      sym (c .before .before .before .parse-range .ensures) ∙ c .before .enum-told .given .1,
+      ← ranged .before .before .before .skip-spaces .ensures,
+      ← ranged .before .before .run-end .ensures,
+      ← ranged .before .skip-spaces2 .ensures,
+      sym (ranged .parse-range .ensures) ∙ c .before .enum-told .given .1,
     )
 
 returns-2 : tie.Need-returns-2
 unfolding leadOf leadRange isKind
 returns-2 c =
+    let ranged = c .before .before .before .before in
     rw (
       c .lead-word2 .ensures,
-      ← c .before .before .before .before .before .before .before .skip-spaces .ensures,
-      ← c .before .before .before .before .before .before .run-end .ensures,
-      ← c .before .before .before .before .before .skip-spaces2 .ensures,
-      sym (c .before .before .before .before .parse-range .ensures) ∙ c .before .before .d .given .1,
+      ← ranged .before .before .before .skip-spaces .ensures,
+      ← ranged .before .before .run-end .ensures,
+      ← ranged .before .skip-spaces2 .ensures,
+      sym (ranged .parse-range .ensures) ∙ c .before .before .d .given .1,
     )
 
 returns-3 : tie.Need-returns-3
 unfolding leadOf leadRange isKind
 returns-3 c =
+    let ranged = c .before .before .before in
     rw (
       c .lead-left .ensures,
-      ← c .before .before .before .before .before .before .skip-spaces .ensures,
-      ← c .before .before .before .before .before .run-end .ensures,
-      ← c .before .before .before .before .skip-spaces2 .ensures,
-      sym (c .before .before .before .parse-range .ensures) ∙ c .before .enum-told2 .given .1,
+      ← ranged .before .before .before .skip-spaces .ensures,
+      ← ranged .before .before .run-end .ensures,
+      ← ranged .before .skip-spaces2 .ensures,
+      sym (ranged .parse-range .ensures) ∙ c .before .enum-told2 .given .1,
     )
 
 pub lead-of-spec : {M : Type 1} → statement M

@@ -31,8 +31,9 @@ skip-spaces-requires c κs = search needs
 returns-2 : tie.Need-returns-2
 unfolding leadWord
 returns-2 c =
+    let named = c .before .before .before in
     rw (
-      sym (c .before .before .before .before .before .parse-cmd-name .ensures) ∙ c .before .before .before .e .given .1,
+      sym (named .before .before .parse-cmd-name .ensures) ∙ named .e .given .1,
       ← c .before .skip-byte .ensures,
       ← c .skip-spaces .ensures,
     )

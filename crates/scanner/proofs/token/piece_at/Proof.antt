@@ -35,16 +35,17 @@ up-to-requires-9 c κs = search needs
 returns : tie.Need-returns
 unfolding pieces pieceAt
 returns c =
+    let ranged = c .before .before .before .before in
     rw (
       c .up-to9 .ensures,
       c .before .up-to8 .ensures,
       c .before .before .up-to7 .ensures,
       c .before .before .before .up-to6 .ensures,
-      c .before .before .before .before .up-to5 .ensures,
-      c .before .before .before .before .before .up-to4 .ensures,
-      c .before .before .before .before .before .before .up-to3 .ensures,
-      c .before .before .before .before .before .before .before .up-to2 .ensures,
-      c .before .before .before .before .before .before .before .before .up-to .ensures,
+      ranged .up-to5 .ensures,
+      ranged .before .up-to4 .ensures,
+      ranged .before .before .up-to3 .ensures,
+      ranged .before .before .before .up-to2 .ensures,
+      ranged .before .before .before .before .up-to .ensures,
     )
 
 pub piece-at-spec : {M : Type 1} → statement M

@@ -1,13 +1,15 @@
 -- `sheet::sheet::run` is safe and ends.
 -- Assumes nothing.
-use lib.ListN.{length}
 use mathlib.Core.Path.{_≡_}
+use Prim.Native.Nat.{_+_}
+use lib.ListN.{length}
+use Rattle.limits.specs.Limits.{lineLimit}
 use borrow.Author.Needs.{needs}
 use Rattle.sheet.proofs.sheet.run.Statement.{statement}
 use Rattle.sheet.proofs.sheet.run.Tie as tie
 
 abbrev Inv-loop : tie.InvT-loop
-Inv-loop fd session₀ out₀ line₀ turns₀ t₀ session out line turns t = (length session ≡ length session₀) × (length out ≡ length out₀) × (1025 ≡ length line)
+Inv-loop fd session₀ out₀ line₀ turns₀ t₀ session out line turns t = (length session ≡ length session₀) × (length out ≡ length out₀) × (lineLimit + 1 ≡ length line)
 
 abbrev μ-loop : tie.MeasureT-loop
 μ-loop fd session₀ out₀ line₀ turns₀ t₀ session out line turns t = turns
