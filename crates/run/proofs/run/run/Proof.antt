@@ -2,7 +2,7 @@
 -- store is as it was.
 -- Assumes nothing.
 use mathlib.Core.Path.{_≡_, refl, sym, _∙_, ap}
-use Prim.Native.Nat.{_+_, _-_, _^_, _<_}
+use Prim.Native.Nat.{_+_, _-_, _^_, _<_, _≤_}
 use native.Mathlib.Omega.{arith}
 use lib.ListN.{length}
 use Rattle.scan.specs.Bytes.{isText}
@@ -108,15 +108,29 @@ unknown-in c =
     held-next _ _ _ _ _ _ _ (at-part2 .before .loop .inv .1) _ (sym (c .before .before .before .decide .ensures ∙ ap (decideOf _) (at-part2 .part2 .ensures))
     ∙ c .before .a .given .1)
 
-add-end-unknown : tie.Need-add-end-unknown Inv-loop μ-loop
-add-end-unknown c =
+line-fits : (c : tie.After-decide Inv-loop μ-loop) →
+    let at-part = c .before .before .before .before in
+    let at-fresh = at-part .before .before in
+    length (at-fresh .before .before .before .before .args .line .now) < 2 ^ 64
+line-fits c = omega arith
+
+-- what holds where the turn began
+unknown-held : (c : tie.After-known-told2 Inv-loop μ-loop) →
     let at-part2 = c .before .before .before .before in
-    omega (arith, unknown-in c, at-part2 .before .loop .inv .1)
+    let l = at-part2 .before .loop in
+    let at-fresh = at-part2 .before .before .before .before in
+    let start = at-fresh .before in
+    (l .from ≤ l .to) × (l .to ≤ length (start .before .before .before .before .args .line .now))
+unknown-held c =
+    let at-part2 = c .before .before .before .before in
+    let h = at-part2 .before .loop .inv .1 in
+    (h .order, h .inside)
+
+add-end-unknown : tie.Need-add-end-unknown Inv-loop μ-loop
+add-end-unknown c = omega (arith, unknown-in c, unknown-held c, line-fits (c .before .before .before))
 
 add-end-unknown-2 : tie.Need-add-end-unknown-2 Inv-loop μ-loop
-add-end-unknown-2 c =
-    let at-part2 = c .before .before .before .before in
-    omega (arith, unknown-in c, at-part2 .before .loop .inv .1)
+add-end-unknown-2 c = omega (arith, unknown-in c, unknown-held c, line-fits (c .before .before .before))
 
 end-unknown-requires : tie.Need-end-unknown-requires Inv-loop μ-loop
 end-unknown-requires c κs =
@@ -142,12 +156,6 @@ returns-3 c =
 
 enum-known-k : tie.Need-enum-known-k Inv-loop μ-loop
 enum-known-k c = search needs
-
-line-fits : (c : tie.After-decide Inv-loop μ-loop) →
-    let at-part = c .before .before .before .before in
-    let at-fresh = at-part .before .before in
-    length (at-fresh .before .before .before .before .args .line .now) < 2 ^ 64
-line-fits c = omega arith
 
 runs-in : (c : tie.After-struct-known Inv-loop μ-loop) →
     let at-k = c .before .before in
