@@ -1,4 +1,4 @@
-"""What crates/limits says once, and the words that crates/wording gives each refusal: for the tests that hold other files to it."""
+"""What crates/limits says once, and the words that crates/reasons gives each refusal: for the tests that hold other files to it."""
 import pathlib
 import re
 
@@ -33,7 +33,7 @@ def numbers():
 
 def words():
     """The words of each refusal."""
-    text = (CRATES / 'wording/src/refusal.rt').read_text()
+    text = (CRATES / 'reasons/src/lib.rt').read_text()
     said, known = {}, limits()
     for name, call in re.findall(r'Refusal::(\w+) => (?:\{\s*)?(put_\w+\([^;{}]*?\))\s*[,}]', text):
         parts = re.findall(r'b"([^"]*)"|\b([A-Z_]{2,})\b', call)

@@ -4,6 +4,7 @@ use mathlib.Core.Path.{_≡_, refl}
 use mathlib.Core.List.{List, [], _∷_}
 use Prim.Native.Nat.{ℕ, suc, _≤_}
 use native.Mathlib.Omega.{arith}
+use lib.ListN.{length}
 use Rattle.limits.specs.Refusals.{refusalNo, refusals, refusalOf, placeOf}
 use Rattle.limits.specs.declared.refusal.Refusal.{Refusal}
 use Rattle.limits.specs.declared.refusal.Numbered.{Numbered}
@@ -25,6 +26,13 @@ refusal-back Refusal.Unimplemented = refl
 refusal-back Refusal.StoreTooShort = refl
 refusal-back Refusal.AliasesFull = refl
 refusal-back Refusal.NotASession = refl
+
+-- how many there are
+abbrev pub refusalCount : ℕ
+refusalCount = 14
+
+pub refusals-count : length refusals ≡ refusalCount
+refusals-count = refl
 
 -- the greatest number
 abbrev pub lastRefusal : ℕ

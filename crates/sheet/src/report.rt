@@ -1,4 +1,6 @@
 // One line of a report, written into a lent buffer.
+use reasons::put_refusal;
+use reasons::put_refused;
 use run::reply::LineReply;
 use wording::put::put_byte;
 use wording::put::put_decimal;
@@ -6,8 +8,6 @@ use wording::put::put_hex;
 use wording::put::put_quoted;
 use wording::put::put_text;
 use wording::record::put_record;
-use wording::refusal::put_refusal;
-use wording::refusal::put_refused;
 ghost use Rattle.wording.specs.Behind.{Behind};
 
 // A number and a space.

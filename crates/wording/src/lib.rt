@@ -1,4 +1,3 @@
-// The words in which actions and refusals are told to the people at the console: those of bindings/rust/src/words.rs.
+// The words in which actions are told to the people at the console: those of bindings/rust/src/words.rs.
 pub mod put;
 pub mod record;
-pub mod refusal;

@@ -1,9 +1,8 @@
 -- `sheet::tally::entry` meets its contract.
 -- Assumes nothing.
-use mathlib.Core.Path.{_≡_, refl, sym, _∙_}
+use mathlib.Core.Path.{sym, _∙_}
 use native.Mathlib.Omega.{arith}
-use lib.ListN.{length}
-use Rattle.limits.specs.Refusals.{refusals}
+use Rattle.limits.specs.RefusalsLaws.{refusals-count}
 use Rattle.sheet.specs.Tally.{entryOf}
 use borrow.Author.Needs.{needs}
 use Rattle.sheet.proofs.tally.entry.Statement.{statement}
@@ -34,14 +33,12 @@ returns c =
 returns-2 : tie.Need-returns-2
 unfolding entryOf
 returns-2 c =
-    let n : length refusals ≡ 14 = refl in
-    (rw (sym (c .before .before .refusal-of .ensures) ∙ c .enum-told .given .1), omega arith)
+    (rw (sym (c .before .before .refusal-of .ensures) ∙ c .enum-told .given .1, refusals-count), omega (arith, refusals-count))
 
 returns-3 : tie.Need-returns-3
 unfolding entryOf
 returns-3 c =
-    let n : length refusals ≡ 14 = refl in
-    (rw (sym (c .before .before .refusal-of .ensures) ∙ c .enum-told2 .given .1), omega arith)
+    (rw (sym (c .before .before .refusal-of .ensures) ∙ c .enum-told2 .given .1, refusals-count), omega (arith, refusals-count))
 
 pub entry-spec : {M : Type 1} → statement M
 entry-spec =

@@ -1,9 +1,9 @@
--- `refusal::put_limit` meets its contract.
+-- `reasons::put_limit` meets its contract.
 -- Assumes nothing.
 use Rattle.wording.specs.BehindLaws.{behind-then}
 use borrow.Author.Needs.{needs}
-use Rattle.wording.proofs.refusal.put_limit.Statement.{statement}
-use Rattle.wording.proofs.refusal.put_limit.Tie as tie
+use Rattle.reasons.proofs.put_limit.Statement.{statement}
+use Rattle.reasons.proofs.put_limit.Tie as tie
 
 put-text-requires : tie.Need-put-text-requires
 put-text-requires c κs = search needs

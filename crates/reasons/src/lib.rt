@@ -1,8 +1,4 @@
-// Refusals in words.
-use super::put::put_decimal;
-use super::put::put_quoted;
-use super::put::put_text;
-use super::record::name_of;
+// Refusals in words: those of bindings/rust/src/words.rs.
 use limits::ALIASES;
 use limits::LAST_COMMAND;
 use limits::LINE;
@@ -12,7 +8,11 @@ use limits::refusal::Numbered;
 use limits::refusal::Refusal;
 use limits::refusal::number;
 use limits::refusal::refusal_of;
+use wording::put::put_decimal;
+use wording::put::put_quoted;
+use wording::put::put_text;
+use wording::record::name_of;
 ghost use Rattle.wording.specs.Behind.{Behind};
 
 // Words about a limit.
 fn put_limit(out: &mut [u8], at: usize, before: &[u8], limit: u64, behind: &[u8]) -> usize

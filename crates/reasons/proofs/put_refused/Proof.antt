@@ -1,9 +1,9 @@
--- `wording::refusal::put_refused` meets its contract.
+-- `reasons::put_refused` meets its contract.
 -- Assumes nothing.
 use Rattle.wording.specs.BehindLaws.{behind-then}
 use borrow.Author.Needs.{needs}
-use Rattle.wording.proofs.refusal.put_refused.Statement.{statement}
-use Rattle.wording.proofs.refusal.put_refused.Tie as tie
+use Rattle.reasons.proofs.put_refused.Statement.{statement}
+use Rattle.reasons.proofs.put_refused.Tie as tie
 
 number-requires : tie.Need-number-requires
 number-requires c κs = search needs

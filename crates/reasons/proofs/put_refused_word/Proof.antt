@@ -1,9 +1,9 @@
--- `wording::refusal::put_refused_word` meets its contract.
+-- `reasons::put_refused_word` meets its contract.
 -- Assumes nothing.
 use Rattle.wording.specs.BehindLaws.{behind-then}
 use borrow.Author.Needs.{needs}
-use Rattle.wording.proofs.refusal.put_refused_word.Statement.{statement}
-use Rattle.wording.proofs.refusal.put_refused_word.Tie as tie
+use Rattle.reasons.proofs.put_refused_word.Statement.{statement}
+use Rattle.reasons.proofs.put_refused_word.Tie as tie
 
 put-refusal-requires : tie.Need-put-refusal-requires
 put-refusal-requires c κs = search needs
