@@ -1,5 +1,4 @@
 // What the exported entries answer to aliases and lines (ops 0 to 2, 8 and 9), as the oracle writes it.
-use super::vectors;
 use entries::pagyolint_alias;
 use entries::pagyolint_fresh;
 use entries::pagyolint_line;

@@ -1,7 +1,5 @@
 // Replays the oracle's vectors and prints how many agree. An answer is built as the oracle writes it, byte for byte.
 mod lines;
-mod readings;
-mod vectors;
 
 use libc::STDIN_FILENO;
 use lines::Answered;
@@ -22,7 +20,7 @@ fn answer(session: [u8; SESSION], op: u8, text: &[u8], out: &mut [u8]) -> Answer
     }
     Answered {
         session: session,
-        end: readings::answer(op, text, out),
+        end: answers::answer(op, text, out),
     }
 }
 

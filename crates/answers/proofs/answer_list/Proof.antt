@@ -1,12 +1,12 @@
--- `replay::answer_list` is safe and ends.
+-- `answers::answer_list` is safe and ends.
 -- Assumes nothing.
 use mathlib.Core.Path.{_≡_}
 use Prim.Native.Nat.{_+_, _-_}
 use lib.ListN.{length}
 use Rattle.limits.specs.Limits.{lineLimit}
 use borrow.Author.Needs.{needs}
-use Rattle.replay.proofs.readings.answer_list.Statement.{statement}
-use Rattle.replay.proofs.readings.answer_list.Tie as tie
+use Rattle.answers.proofs.answer_list.Statement.{statement}
+use Rattle.answers.proofs.answer_list.Tie as tie
 
 abbrev Inv-loop : tie.InvT-loop
 Inv-loop op text out₀ t₀ place₀ out t place = length out ≡ length out₀

@@ -1,11 +1,11 @@
--- `replay::put_offsets` is safe and ends.
+-- `answers::put_offsets` is safe and ends.
 -- Assumes nothing.
 use mathlib.Core.Path.{_≡_}
 use Prim.Native.Nat.{_-_}
 use lib.ListN.{length}
 use borrow.Author.Needs.{needs}
-use Rattle.replay.proofs.readings.put_offsets.Statement.{statement}
-use Rattle.replay.proofs.readings.put_offsets.Tie as tie
+use Rattle.answers.proofs.put_offsets.Statement.{statement}
+use Rattle.answers.proofs.put_offsets.Tie as tie
 
 abbrev Inv-loop : tie.InvT-loop
 Inv-loop out₀ n s w₀ i₀ out w i = length out ≡ length out₀

@@ -4,8 +4,8 @@ use mathlib.Core.Path.{_≡_}
 use Prim.Native.Nat.{_^_, _<_}
 use lib.ListN.{length}
 use borrow.Author.Needs.{needs}
-use Rattle.replay.proofs.vectors.put_number.Statement.{statement}
-use Rattle.replay.proofs.vectors.put_number.Tie as tie
+use Rattle.vectors.proofs.put_number.Statement.{statement}
+use Rattle.vectors.proofs.put_number.Tie as tie
 
 abbrev Inv-loop : tie.InvT-loop
 Inv-loop out₀ n x at₀ left₀ out at left = (left < 2 ^ 64) × (length out ≡ length out₀)

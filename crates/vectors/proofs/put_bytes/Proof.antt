@@ -4,8 +4,8 @@ use mathlib.Core.Path.{_≡_}
 use Prim.Native.Nat.{_-_}
 use lib.ListN.{length}
 use borrow.Author.Needs.{needs}
-use Rattle.replay.proofs.vectors.put_bytes.Statement.{statement}
-use Rattle.replay.proofs.vectors.put_bytes.Tie as tie
+use Rattle.vectors.proofs.put_bytes.Statement.{statement}
+use Rattle.vectors.proofs.put_bytes.Tie as tie
 
 abbrev Inv-loop : tie.InvT-loop
 Inv-loop out₀ n s at₀ i₀ out at i = length out ≡ length out₀

@@ -1,10 +1,10 @@
--- `replay::signs` is safe and ends.
+-- `answers::signs` is safe and ends.
 -- Assumes nothing.
 use Prim.Native.Nat.{_-_}
 use lib.ListN.{length}
 use borrow.Author.Needs.{needs}
-use Rattle.replay.proofs.readings.signs.Statement.{statement}
-use Rattle.replay.proofs.readings.signs.Tie as tie
+use Rattle.answers.proofs.signs.Statement.{statement}
+use Rattle.answers.proofs.signs.Tie as tie
 
 abbrev Inv-loop : tie.InvT-loop
 Inv-loop s n₀ i₀ n i = Unit {0}

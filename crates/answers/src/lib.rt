@@ -1,5 +1,4 @@
 // What the public functions of `reading` answer to ranges, lists and readings (ops 3 to 7), as the oracle writes it.
-use super::vectors;
 use limits::LINE;
 use limits::STORE;
 use limits::refusal::Refusal;
