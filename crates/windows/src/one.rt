@@ -8,11 +8,12 @@ ghost use mathlib.Core.Path.{_≡_};
 ghost use Rattle.scan.specs.Bytes.{Classes};
 ghost use Rattle.windows.specs.One.{onlyPicked, onlyRead, onlyItem};
 
-// The item of a list that has none or one.
+// The item of a list that has none or one. The refusal stands first: with it last the loop over many items is compiled to the same
+// instructions on other registers, and takes a tenth longer.
 pub enum OnlyItem {
+    Refused(Refusal),
     Absent,
     One(Item),
-    Refused(Refusal),
 }
 
 fn only_picked(p: Picked) -> OnlyItem
