@@ -20,7 +20,7 @@
 #include <stdint.h>
 
 /* A session is as long as this, no more and no less. */
-#define PAGYOLINT_SESSION_BYTES 1860
+#define PAGYOLINT_SESSION_BYTES 1851
 
 /* A line is at most as long as this. */
 #define PAGYOLINT_LINE_BYTES 1024
@@ -48,7 +48,7 @@ enum pagyolint_refusal {
     PAGYOLINT_UNIMPLEMENTED = 11,    /* !, &, read, print and substitute */
     PAGYOLINT_STORE_TOO_SHORT = 12,  /* the store is shorter than the line and 40, or than the remembered line */
     PAGYOLINT_ALIASES_FULL = 13,     /* a new alias when 32 are there */
-    PAGYOLINT_NOT_A_SESSION = 99     /* the bytes are not 1,860, or no session is written as them */
+    PAGYOLINT_NOT_A_SESSION = 99     /* the bytes are not 1,851, or no session is written as them */
 };
 
 /* What a line answers: the refusal or 0; the readings begun; and how many bytes it wrote at the front of the store. */
@@ -66,7 +66,7 @@ struct pagyolint_count_reply {
 
 /*
  * Writes a fresh session: it remembers the empty line and has no added alias. Call it first.
- * session: to write; any bytes. Only their count is checked. Bytes 0 to 3 are written, all others stay.
+ * session: to write; any bytes. Only their count is checked. Bytes 0, 1 and 1,026 are written, all others stay.
  * Answers 0, or 99.
  */
 uint64_t pagyolint_fresh(uint8_t *session, size_t session_len);

@@ -13,6 +13,13 @@
 #define MOST 2048
 #define FILL 0xA5
 
+/* The places of a session's bytes, by docs/SESSION-BYTES.md. */
+#define LINE_AT 2
+#define NUMBER_AT 1026
+#define COUNTS_AT 1027
+#define COMMANDS_AT 1051
+#define WORDS_AT 1083
+
 /* len bytes of room, from GUARD on; all others are FILL. */
 struct slice {
     uint8_t room[GUARD + MOST + GUARD];
@@ -43,12 +50,8 @@ static void guarded(const struct slice *s) {
 
 static int same(const struct slice *a, const struct slice *b) { return a->len == b->len && memcmp(a->room, b->room, sizeof a->room) == 0; }
 
-/* The slice is as it was before, with these bytes written at a place. */
-static void only(const struct slice *before, struct slice *now, size_t at, const void *written, size_t len) {
-    struct slice want = *before;
-    memcpy(bytes(&want) + at, written, len);
-    assert(same(&want, now));
-}
+/* Writes bytes at a place of what a slice is to be. */
+static void set(struct slice *s, size_t at, const void *written, size_t len) { memcpy(bytes(s) + at, written, len); }
 
 /* The calls, with what holds after each of them. */
 
@@ -56,7 +59,11 @@ static uint64_t fresh(void) {
     struct slice s = session;
     uint64_t n = pagyolint_fresh(bytes(&session), session.len);
     guarded(&session);
-    only(&s, &session, 0, "\0\0\0\0", n == 0 ? 4 : 0);
+    if (n == 0) {
+        set(&s, 0, "\0\0", 2);
+        set(&s, NUMBER_AT, "\0", 1);
+    }
+    assert(same(&s, &session));
     return n;
 }
 
@@ -114,18 +121,44 @@ static void start(void) {
 
 /* The worked example of docs/SESSION-BYTES.md. */
 static void example(void) {
+    static const uint8_t counts[24] = {1};
     start();
     assert(remembers(""));
 
     struct slice s = session;
     assert(alias("v", 25) == PAGYOLINT_ACCEPTED);
-    only(&s, &session, 2, "\x03\x00\x01\x19\x76", 5);
+    set(&s, NUMBER_AT, "\x01", 1);
+    set(&s, COUNTS_AT, counts, 24);
+    set(&s, COMMANDS_AT, "\x19", 1);
+    set(&s, WORDS_AT, "v", 1);
+    assert(same(&s, &session));
 
-    s = session;
     assert(replied(line("v sp", 4, PAGYOLINT_STORE_BYTES), 0, 2, "\x04\x00\x00\x01\x01\x01\x01", 7));
-    memcpy(bytes(&s), "\x04\x00", 2);
-    only(&s, &session, 836, "v sp", 4);
+    set(&s, 0, "\x04\x00", 2);
+    set(&s, LINE_AT, "v sp", 4);
+    assert(same(&s, &session));
     assert(remembers("v sp"));
+}
+
+/* The bytes of a table of four: shorter words first, and of those of one length the one whose last byte is lower. */
+static void table(void) {
+    static const uint8_t counts[24] = {1, 2, 0, 1};
+    start();
+    struct slice s = session;
+    assert(alias("ab", 1) == PAGYOLINT_ACCEPTED);
+    assert(alias("tabs", 13) == PAGYOLINT_ACCEPTED);
+    assert(alias("ba", 2) == PAGYOLINT_ACCEPTED);
+    assert(alias("z", 3) == PAGYOLINT_ACCEPTED);
+    set(&s, NUMBER_AT, "\x04", 1);
+    set(&s, COUNTS_AT, counts, 24);
+    set(&s, COMMANDS_AT, "\x03\x02\x01\x0D", 4);
+    set(&s, WORDS_AT, "z" "ba" "ab" "tabs", 9);
+    assert(same(&s, &session));
+
+    /* Another command for a word that is there changes that byte alone. */
+    assert(alias("ab", 27) == PAGYOLINT_ACCEPTED);
+    set(&s, COMMANDS_AT + 2, "\x1B", 1);
+    assert(same(&s, &session));
 }
 
 static void lines(void) {
@@ -233,40 +266,59 @@ static void is_none(void) {
     assert(same(&s, &session));
 }
 
-/* A session with two aliases and a line, and one byte of it changed. */
+/* A session with the words b, ba, bb and a line, and one byte of it changed. */
 static void damaged(size_t at, uint8_t to) {
     start();
+    assert(alias("bb", 6) == PAGYOLINT_ACCEPTED);
     assert(alias("b", 5) == PAGYOLINT_ACCEPTED);
-    assert(alias("ab", 6) == PAGYOLINT_ACCEPTED);
+    assert(alias("ba", 7) == PAGYOLINT_ACCEPTED);
     assert(line("q", 1, PAGYOLINT_STORE_BYTES).refusal == PAGYOLINT_ACCEPTED);
     bytes(&session)[at] = to;
 }
 
 static void damages(void) {
     static const struct { size_t at; uint8_t to; } bad[] = {
-        {1, 5},      /* a line above 1,024 bytes */
-        {3, 4},      /* aliases above 832 bytes */
-        {2, 6},      /* the last alias cut short */
-        {4, 3},      /* a word's length that is not its own */
-        {4, 0},      /* an empty word */
-        {5, 28},     /* a command above 27 */
-        {6, '!'},    /* a byte that is no word character */
-        {6, 'c'},    /* words that do not ascend */
-        {836, 0xFF}, /* a line that is not UTF-8 */
+        {1, 5},                /* a line above 1,024 bytes */
+        {LINE_AT, 0xFF},       /* a line that is not UTF-8 */
+        {NUMBER_AT, 2},        /* fewer aliases than the counts add up to */
+        {NUMBER_AT, 4},        /* more of them */
+        {NUMBER_AT, 33},       /* more than there can be */
+        {COUNTS_AT, 0},        /* a count that is too low */
+        {COUNTS_AT + 23, 1},   /* a count that is too high */
+        {COMMANDS_AT, 28},     /* a command above 27 */
+        {COMMANDS_AT + 2, 28}, /* so is the last one */
+        {WORDS_AT, '!'},       /* a byte that is no word character */
+        {WORDS_AT + 2, 'c'},   /* words of one length that do not ascend */
+        {WORDS_AT + 4, 'a'},   /* a word that stands twice */
     };
     for (size_t i = 0; i < sizeof bad / sizeof bad[0]; i++) {
         damaged(bad[i].at, bad[i].to);
         is_none();
     }
 
-    /* Free bytes may be anything. */
-    damaged(11, 0xFF);
+    /* The order: the length first, then the last byte, then the one before it. */
+    damaged(WORDS_AT, 'z');
     assert(remembers("q"));
-    damaged(837, 0xFF);
+    damaged(WORDS_AT + 1, 'c');
+    assert(remembers("q"));
+    damaged(WORDS_AT + 4, 'a');
+    bytes(&session)[WORDS_AT + 3] = 'c';
+    assert(remembers("q"));
+    bytes(&session)[WORDS_AT + 3] = 'a';
+    is_none();
+
+    /* Free bytes may be anything: behind the line, the commands and the words, and the counts where there is no alias. */
+    static const size_t is_free[] = {LINE_AT + 1, NUMBER_AT - 1, COMMANDS_AT + 3, WORDS_AT - 1, WORDS_AT + 5, PAGYOLINT_SESSION_BYTES - 1};
+    for (size_t i = 0; i < sizeof is_free / sizeof is_free[0]; i++) {
+        damaged(is_free[i], 0xFF);
+        assert(remembers("q"));
+    }
+    damaged(NUMBER_AT, 0);
+    memset(bytes(&session) + COUNTS_AT, 0xFF, PAGYOLINT_SESSION_BYTES - COUNTS_AT);
     assert(remembers("q"));
 
     /* Another length, which is all that a fresh session asks for. */
-    for (size_t len = 1859; len <= 1861; len += 2) {
+    for (size_t len = PAGYOLINT_SESSION_BYTES - 1; len <= PAGYOLINT_SESSION_BYTES + 1; len += 2) {
         room(&session, len);
         assert(fresh() == PAGYOLINT_NOT_A_SESSION);
         is_none();
@@ -275,6 +327,7 @@ static void damages(void) {
 
 int main(void) {
     example();
+    table();
     lines();
     samples();
     aliases();

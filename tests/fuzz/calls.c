@@ -71,8 +71,10 @@ void try_fresh(struct bytes *session, unsigned where) {
     int good = session->len == PAGYOLINT_SESSION_BYTES;
     met_answer(FRESH, a.refusal);
     must(a.refusal == (good ? PAGYOLINT_ACCEPTED : PAGYOLINT_NOT_A_SESSION), "fresh: the wrong answer");
-    if (good)
-        memset(want.at, 0, 4);
+    if (good) {
+        memset(want.at, 0, LINE_AT);
+        want.at[ADDED_AT] = 0;
+    }
     must(same(&want, &a.session), "fresh: the wrong session");
     must(is_sound(&a.session) == good, "fresh: not a session");
     must_repeat(&a, &b);
@@ -168,7 +170,7 @@ static void check_line(const struct bytes *session, const struct bytes *line, co
 
 /* Demand 3: the line behind a prefix and a space has one reading more, where no 0x0A stands in it. */
 static void check_prefixed(const struct bytes *session, const struct bytes *line, const struct after *a, unsigned where) {
-    struct alias p;
+    struct row p;
     if (a->readings == 0 || !shortest_prefix(session, &p) || line->len + p.len + 1 > PAGYOLINT_LINE_BYTES || memchr(line->at, '\n', line->len))
         return;
     struct bytes longer = {.len = p.len + 1 + line->len}, store = {.len = MOST_STORE};

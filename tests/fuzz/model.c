@@ -3,11 +3,9 @@
 
 #include <string.h>
 
-#include "pagyolint.h"
 #include "words.h"
 
-#define ALIASES_AT 4
-#define ALIASES_ROOM 832
+_Static_assert(ADDED_AT + TABLE_BYTES(MOST_ALIASES) == PAGYOLINT_SESSION_BYTES, "the parts of a session are as long as it is");
 
 /* UTF-8: by the number that a character stands for. */
 
@@ -37,98 +35,90 @@ int is_utf8(const uint8_t *text, size_t len) {
     return 1;
 }
 
-/* Aliases. */
-
-int is_alias(const uint8_t *word, size_t len) {
-    if (len < 1 || MOST_WORD < len)
-        return 0;
-    for (size_t i = 0; i < len; i++)
-        if (!is_word_byte(word[i]))
-            return 0;
-    return 1;
-}
-
-/* Below 0, 0 or above 0: byte by byte, and a word before those that it begins. */
-static int order(const struct alias *a, const struct alias *b) {
-    int c = memcmp(a->word, b->word, a->len < b->len ? a->len : b->len);
-    return c != 0 ? c : (a->len > b->len) - (a->len < b->len);
-}
+/* Which bytes are a session: by the rules, and by reading and writing. */
 
 size_t line_len(const struct bytes *session) { return two_at(session->at); }
 
-size_t aliases_len(const struct bytes *session) { return two_at(session->at + 2); }
-
-/* Reads the aliases; 0 where the bytes are not those of good aliases. */
-static int read_aliases(const struct bytes *session, struct aliases *out) {
-    const uint8_t *at = session->at + ALIASES_AT, *end = at + aliases_len(session);
-    out->count = 0;
-    while (at < end) {
-        if (end - at < 2 || end - at < 2 + at[0] || !is_alias(at + 2, at[0]) || at[1] >= COMMANDS || out->count == MOST_ALIASES)
-            return 0;
-        struct alias a = {at + 2, at[0], at[1]};
-        if (out->count > 0 && order(&out->list[out->count - 1], &a) >= 0)
-            return 0;
-        out->list[out->count++] = a;
-        at += 2 + a.len;
-    }
-    return 1;
+int is_sound(const struct bytes *session) {
+    return session->len == PAGYOLINT_SESSION_BYTES && line_len(session) <= PAGYOLINT_LINE_BYTES &&
+           is_utf8(session->at + LINE_AT, line_len(session)) && is_table(session->at, added_table);
 }
 
-int is_sound(const struct bytes *session) {
-    struct aliases found;
-    return session->len == PAGYOLINT_SESSION_BYTES && line_len(session) <= PAGYOLINT_LINE_BYTES && aliases_len(session) <= ALIASES_ROOM &&
-           is_utf8(session->at + LINE_AT, line_len(session)) && read_aliases(session, &found);
+/* A session as it is read from bytes; line and words stay in them. */
+struct session {
+    const uint8_t *line;
+    size_t line_len;
+    struct rows added;
+};
+
+static void read_session(const struct bytes *from, struct session *out) {
+    out->line = from->at + LINE_AT;
+    out->line_len = line_len(from);
+    read_rows(from->at, added_table, &out->added);
+}
+
+static int is_formed(const struct session *s) {
+    return s->line_len <= PAGYOLINT_LINE_BYTES && is_utf8(s->line, s->line_len) && are_good(&s->added, added_table);
+}
+
+static void write_session(const struct session *s, struct bytes *over) {
+    put_two(over->at, s->line_len);
+    memmove(over->at + LINE_AT, s->line, s->line_len);
+    write_rows(over->at, added_table, &s->added);
+}
+
+int is_written(const struct bytes *session) {
+    struct session s;
+    struct bytes over = *session;
+    if (session->len != PAGYOLINT_SESSION_BYTES)
+        return 0;
+    read_session(session, &s);
+    if (!is_formed(&s))
+        return 0;
+    write_session(&s, &over);
+    return memcmp(over.at, session->at, session->len) == 0;
 }
 
 /* Words. */
 
-static struct alias of_shipped(const struct shipped *s) {
-    return (struct alias){(const uint8_t *)s->word, strlen(s->word), s->command};
-}
-
-static const struct alias *find(const struct aliases *in, const struct alias *word) {
-    for (size_t i = 0; i < in->count; i++)
-        if (order(&in->list[i], word) == 0)
-            return &in->list[i];
-    return NULL;
-}
+static struct row of_shipped(const struct shipped *s) { return (struct row){(const uint8_t *)s->word, strlen(s->word), s->command}; }
 
 int command_of(const struct bytes *session, const uint8_t *word, size_t len) {
-    struct aliases added;
-    struct alias w = {word, len, 0};
-    read_aliases(session, &added);
-    const struct alias *found = find(&added, &w);
+    struct rows added;
+    struct row w = {word, len, 0};
+    read_rows(session->at, added_table, &added);
+    const struct row *found = find_row(&added, word, len);
     if (found != NULL)
         return (int)found->command;
     for (size_t i = 0; i < SHIPPED; i++) {
-        struct alias s = of_shipped(&shipped[i]);
-        if (order(&s, &w) == 0)
+        struct row s = of_shipped(&shipped[i]);
+        if (row_order(&s, &w) == 0)
             return (int)s.command;
     }
     return -1;
 }
 
-static void shorter(const struct alias *a, struct alias *least) {
+static void shorter(const struct row *a, struct row *least) {
     if (is_prefix((unsigned)a->command) && (least->len == 0 || a->len < least->len))
         *least = *a;
 }
 
-int shortest_prefix(const struct bytes *session, struct alias *out) {
-    struct aliases added;
-    read_aliases(session, &added);
+int shortest_prefix(const struct bytes *session, struct row *out) {
+    struct rows added;
+    read_rows(session->at, added_table, &added);
     out->len = 0;
     for (size_t i = 0; i < added.count; i++)
         shorter(&added.list[i], out);
     for (size_t i = 0; i < SHIPPED; i++) {
-        struct alias s = of_shipped(&shipped[i]);
-        if (find(&added, &s) == NULL)
+        struct row s = of_shipped(&shipped[i]);
+        if (find_row(&added, s.word, s.len) == NULL)
             shorter(&s, out);
     }
     return out->len > 0;
 }
 
 uint64_t readings_limit(const struct bytes *session, size_t len) {
-    struct alias least;
+    struct row least;
     return shortest_prefix(session, &least) ? (len + 1) / (least.len + 1) + 1 : 1;
 }
 
@@ -139,44 +129,30 @@ void remember(struct bytes *session, const struct bytes *line) {
     memcpy(session->at + LINE_AT, line->at, line->len);
 }
 
-static void write_aliases(struct bytes *session, const struct aliases *from) {
-    uint8_t area[ALIASES_ROOM];
-    size_t n = 0;
-    for (size_t i = 0; i < from->count; i++) {
-        area[n++] = (uint8_t)from->list[i].len;
-        area[n++] = (uint8_t)from->list[i].command;
-        memcpy(area + n, from->list[i].word, from->list[i].len);
-        n += from->list[i].len;
-    }
-    memcpy(session->at + ALIASES_AT, area, n);
-    put_two(session->at + 2, n);
-}
-
 uint64_t add_alias(struct bytes *session, const struct bytes *word, uint64_t command) {
-    struct aliases now;
-    struct alias a = {word->at, word->len, command};
+    struct rows now;
+    struct row row = {word->at, word->len, command};
     if (!is_alias(word->at, word->len))
         return PAGYOLINT_BAD_ALIAS;
     if (command >= COMMANDS)
         return PAGYOLINT_BAD_COMMAND;
-    read_aliases(session, &now);
-    size_t place = 0;
-    while (place < now.count && order(&now.list[place], &a) < 0)
-        place++;
-    if (place == now.count || order(&now.list[place], &a) != 0) {
-        if (now.count == MOST_ALIASES)
-            return PAGYOLINT_ALIASES_FULL;
-        memmove(&now.list[place + 1], &now.list[place], (now.count - place) * sizeof a);
-        now.count++;
-    }
-    now.list[place] = a;
-    write_aliases(session, &now);
+    read_rows(session->at, added_table, &now);
+    if (!insert_row(&now, added_table, &row))
+        return PAGYOLINT_ALIASES_FULL;
+    write_rows(session->at, added_table, &now);
     return PAGYOLINT_ACCEPTED;
 }
 
+void mark_used(const struct bytes *session, uint8_t *used) {
+    memset(used, 0, PAGYOLINT_SESSION_BYTES);
+    memset(used, 1, LINE_AT + line_len(session));
+    mark_table(session->at, added_table, used);
+}
+
 void change_free(struct bytes *session) {
-    for (size_t i = ALIASES_AT + aliases_len(session); i < LINE_AT; i++)
-        session->at[i] ^= 0xFF;
-    for (size_t i = LINE_AT + line_len(session); i < PAGYOLINT_SESSION_BYTES; i++)
-        session->at[i] ^= 0xFF;
+    uint8_t used[PAGYOLINT_SESSION_BYTES];
+    mark_used(session, used);
+    for (size_t i = 0; i < PAGYOLINT_SESSION_BYTES; i++)
+        if (!used[i])
+            session->at[i] ^= 0xFF;
 }

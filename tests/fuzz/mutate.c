@@ -30,8 +30,8 @@ static const char *const ranges[] = {
 static const char *const prefixes[] = {"tab", "hor", "vert", "abo", "bel", "leftabove", "belowright", "v", "t"};
 
 static const size_t numbers[] = {
-    0, 1, 23, 24, 25, 31, 32, 33, 39, 40, 127, 128, 831, 832, 833, 836, 1023, 1024, 1025, 1100, 1859, 1860, 1861, 0x8000, 0x8003, 0x8004, 0x8005,
-    0xC000, 0xFFFF,
+    0, 1, 23, 24, 25, 31, 32, 33, 39, 40, 127, 128, 1023, 1024, 1025, 1026, 1027, 1100, PAGYOLINT_SESSION_BYTES - 1, PAGYOLINT_SESSION_BYTES,
+    PAGYOLINT_SESSION_BYTES + 1, 0x8000, 0x8003, 0x8004, 0x8005, 0xC000, 0xFFFF,
 };
 
 static const enum step_kind kinds[] = {
@@ -117,48 +117,114 @@ static void put_damage(struct text *t) {
         put(t, &values[draw(sizeof values)], 1);
 }
 
-/* The length of up to 34 aliases, and the aliases: bytes 2 and on of a session. Most of them are good. */
-static void put_aliases(struct text *t) {
-    uint8_t row[2 + MOST_WORD];
-    uint32_t count = draw(2) == 0 ? draw(6) : 30 + draw(5), len = draw(4) == 0 ? MOST_WORD : 2 + draw(6);
-    uint32_t odd = draw(4) == 0 ? draw(count + 1) : count;
-    put(t, "\0\0", 2);
+/* A table of up to 32 words, as it stands in bytes: of one length, so that they begin or end alike, or of any. */
+static void make_table(uint8_t *table) {
+    static const char letters[] = "abcdefghijklmnopqrstuvwxyzABCDEFGHIJKLMNOPQRSTUVWXYZ#&*<=>@~";
+    const struct table t = {0, MOST_ALIASES};
+    uint8_t words[MOST_ALIASES + 1][MOST_WORD];
+    struct rows rows = {.count = 0};
+    uint32_t count = draw(2) == 0 ? draw(6) : 28 + draw(6), same = draw(3), len = draw(4) == 0 ? MOST_WORD : 2 + draw(7);
     for (uint32_t i = 0; i < count; i++) {
-        memset(row, '~', sizeof row);
-        row[0] = (uint8_t)len;
-        row[1] = (uint8_t)(draw(256) == 0 ? COMMANDS : draw(COMMANDS));
-        row[2] = (uint8_t)('A' + (i == odd ? draw(count) : i) / 8);
-        row[3] = (uint8_t)('a' + i % 8);
-        put(t, row, 2 + len);
+        struct row row = {words[i], same < 2 ? len : 1 + draw(MOST_WORD), draw(COMMANDS)};
+        memset(words[i], '~', MOST_WORD);
+        words[i][same == 0 ? 0 : row.len - 1] = (uint8_t)letters[i];
+        words[i][draw((uint32_t)row.len)] = (uint8_t)letters[draw(sizeof letters - 1)];
+        insert_row(&rows, t, &row);
     }
-    put_two(t->at, t->len - 2);
+    write_rows(table, t, &rows);
+}
+
+/* Two words of so many bytes, one behind the other, exchanged. */
+static void swap_words(uint8_t *at, size_t len) {
+    uint8_t first[MOST_WORD];
+    memcpy(first, at, len);
+    memcpy(at, at + len, len);
+    memcpy(at + len, first, len);
+}
+
+/* One thing of a table changed: its number, a count, one count for another, a command, a byte of a word, or two of its shortest words. */
+static void change_table(uint8_t *table) {
+    const struct table t = {0, MOST_ALIASES};
+    uint8_t *counts = table + counts_at(t), *words = table + words_at(t);
+    uint32_t number = table[0], len = 1;
+    while (len < MOST_WORD && counts[len - 1] == 0)
+        len++;
+    uint8_t *word = words + draw(number + 1) * len;
+    switch (draw(7)) {
+    case 0:
+        table[0] = (uint8_t)(draw(2) == 0 ? MOST_ALIASES + draw(2) : number - 1 + draw(3));
+        break;
+    case 1:
+        counts[draw(MOST_WORD)] = (uint8_t)draw(draw(4) == 0 ? 256 : MOST_ALIASES + 2);
+        break;
+    case 2:
+        counts[draw(2) == 0 ? len - 1 : draw(MOST_WORD)]--;
+        counts[draw(MOST_WORD)]++;
+        break;
+    case 3:
+        table[commands_at(t) + draw(number + 1)] = (uint8_t)(COMMANDS - 1 + draw(3));
+        break;
+    case 4:
+        word[draw(len)] ^= (uint8_t)(1u << draw(8));
+        break;
+    case 5:
+        swap_words(word, len);
+        break;
+    default:
+        memcpy(word + len, word, len);
+    }
+}
+
+/* The bytes of a table, good or nearly: all, or so many of them. */
+static void put_table(struct text *t) {
+    uint8_t table[TABLE_BYTES(MOST_ALIASES) + 2 * MOST_WORD];
+    memset(table, (int)draw(256), sizeof table);
+    make_table(table);
+    if (draw(2) == 0)
+        change_table(table);
+    put(t, table, draw(4) == 0 ? 1 + draw(TABLE_BYTES(MOST_ALIASES)) : TABLE_BYTES(MOST_ALIASES));
 }
 
 /* Any bytes; now and then as many as a session has. */
 static void put_any(struct text *t) {
-    for (uint32_t n = draw(8) == 0 ? 1860 : 1 + draw(64); n > 0; n--) {
+    for (uint32_t n = draw(8) == 0 ? PAGYOLINT_SESSION_BYTES : 1 + draw(64); n > 0; n--) {
         uint8_t b = (uint8_t)draw(256);
         put(t, &b, 1);
     }
 }
 
+/* A byte of the line's length, the line, the number, the counts, the commands, the words, or any. */
 static size_t damage_place(void) {
-    uint32_t which = draw(4);
-    return which == 0 ? draw(4) : which == 1 ? 4 + draw(64) : which == 2 ? LINE_AT + draw(64) : draw(1860);
+    switch (draw(8)) {
+    case 0:
+        return draw(LINE_AT);
+    case 1:
+        return LINE_AT + draw(64);
+    case 2:
+        return ADDED_AT;
+    case 3:
+        return counts_at(added_table) + draw(draw(2) == 0 ? 4 : MOST_WORD);
+    case 4:
+        return commands_at(added_table) + draw(draw(2) == 0 ? 4 : MOST_ALIASES);
+    case 5: case 6:
+        return words_at(added_table) + draw(64);
+    default:
+        return draw(PAGYOLINT_SESSION_BYTES);
+    }
 }
 
-/* Damage to some bytes, to all, other aliases, or a piece in the remembered line. */
+/* Damage to some bytes, to all, another table, or a piece in the remembered line. */
 static void renew_damage(struct step *s, struct text *t) {
     uint32_t which = draw(8);
     s->a = damage_place();
-    if (which == 0) {
-        s->a = 2;
-        put_aliases(t);
-    } else if (which == 1) {
+    if (which < 2) {
+        s->a = ADDED_AT;
+        put_table(t);
+    } else if (which == 2) {
         s->a = 0;
         s->b |= OVER;
         put_any(t);
-    } else if (which == 2) {
+    } else if (which == 3) {
         s->a = LINE_AT + draw(4);
         put_piece(t);
     } else {
@@ -182,7 +248,7 @@ static void renew_text(struct step *s) {
 static struct step new_step(void) {
     struct step s = {kinds[draw(COUNT(kinds))], (uint8_t)draw(256), 0, 0, NULL, 0};
     if (s.kind == STEP_LENGTH)
-        s.a = draw(2) == 0 ? 1859 + draw(3) : draw(MOST_SESSION + 1);
+        s.a = draw(2) == 0 ? PAGYOLINT_SESSION_BYTES - 1 + draw(3) : draw(MOST_SESSION + 1);
     if (s.kind == STEP_DAMAGE || s.kind == STEP_LENGTH)
         s.b = draw(4) != 0 ? ONCE : 0;
     renew_text(&s);

@@ -27,17 +27,20 @@ extern "C" {
     ) -> u64;
 }
 
-/// A session's bytes and a store that is enough for every line.
+// SESSION and STORE: how long a session is, and a store that is enough for every line.
+include!(concat!(env!("OUT_DIR"), "/sizes.rs"));
+
+/// A session's bytes, which only the entries write, and a store.
 pub struct Entry {
-    session: [u8; 1860],
-    store: [u8; 1064],
+    session: [u8; SESSION],
+    store: [u8; STORE],
 }
 
 impl Entry {
     pub fn fresh() -> Entry {
         let mut entry = Entry {
-            session: [0; 1860],
-            store: [0; 1064],
+            session: [0; SESSION],
+            store: [0; STORE],
         };
         // SAFETY: the slice is the session's own.
         let refusal = unsafe { pagyolint_fresh(entry.session.as_mut_ptr(), entry.session.len()) };

@@ -6,36 +6,58 @@ use oracle::vector::Op;
 /// Lines that are measured together.
 pub struct Kind {
     pub name: String,
-    /// How many bytes the word of each of 32 aliases has; 0 where none is set.
-    pub aliases: usize,
+    /// The words of the aliases that are set.
+    pub aliases: Vec<String>,
     pub lines: Vec<String>,
 }
 
-fn kind(name: &str, aliases: usize, line: impl Into<String>) -> Kind {
+fn kind(name: &str, aliases: &[String], line: impl Into<String>) -> Kind {
     Kind {
         name: name.into(),
-        aliases,
+        aliases: aliases.to_vec(),
         lines: vec![line.into()],
     }
 }
 
 /// A line that is its own name.
 fn short(line: &str) -> Kind {
-    kind(&format!("`{line}`"), 0, line)
+    kind(&format!("`{line}`"), &[], line)
 }
 
-/// The words of the aliases that are set, all of the same length and with the same beginning.
-pub fn alias(number: usize, bytes: usize) -> String {
-    let last = char::from(b'a' + (number % 26) as u8);
-    let before = char::from(b'A' + (number / 26) as u8);
-    format!("{}{before}{last}", "z".repeat(bytes - 2))
+/// Words of so many bytes that are alike but for two: the last two, or the first two.
+struct Alike {
+    bytes: usize,
+    with: &'static str,
+    end: bool,
+}
+
+impl Alike {
+    fn word(&self, two: &str) -> String {
+        let with: String = self.with.chars().cycle().take(self.bytes - 2).collect();
+        if self.end {
+            two.to_owned() + &with
+        } else {
+            with + two
+        }
+    }
+
+    /// 32 words. The last is above all others at both places, so that it is the last in a table by bytes and in one by their reverse.
+    fn words(&self) -> Vec<String> {
+        let letter = |first: u8, number: u8| char::from(first + number);
+        let twos = (0..32).map(|n| [letter(b'A', n / 8), letter(b'a', n % 8)]);
+        twos.map(|two| self.word(&String::from_iter(two))).collect()
+    }
 }
 
 /// Lines with all aliases set: a shipped word, the last alias, and a word that no command has.
-fn aliased(bytes: usize) -> [Kind; 3] {
-    [("`q`", "q".to_owned()), ("the last of them", alias(31, bytes)), ("an unknown word", "z".repeat(bytes))]
-        .map(|(name, line)| kind(&format!("32 aliases of {bytes} bytes, {name}"), bytes, line))
+fn aliased(name: &str, words: Alike) -> [Kind; 3] {
+    let all = words.words();
+    [("`q`", "q".to_owned()), ("the last of them", all[31].clone()), ("an unknown word", words.word("zz"))]
+        .map(|(line_name, line)| kind(&format!("32 aliases of {name}, {line_name}"), &all, line))
 }
+
+/// Word characters that are no letters.
+const SYMBOLS: &str = "#&*<=>@~";
 
 /// All kinds but the mixed lines: short commands, names, prefixes, refusals, all aliases set, and lines of 1,024 bytes.
 pub fn kinds() -> Vec<Kind> {
@@ -47,17 +69,20 @@ pub fn kinds() -> Vec<Kind> {
         short("tabm 3"),
         short("w! \"a b\""),
         short("vert tab hor vert sp abcdefghijkl"),
-        kind("255 times `tab `, then `q`", 0, "tab ".repeat(255) + "q"),
+        kind("255 times `tab `, then `q`", &[], "tab ".repeat(255) + "q"),
         short("3 q"),
         short("foo"),
         short("tabn q"),
         short("$+1close"),
     ];
-    all.extend(aliased(4));
-    all.extend(aliased(24));
+    all.extend(aliased("4 bytes", Alike { bytes: 4, with: "z", end: false }));
+    all.extend(aliased("24 bytes", Alike { bytes: 24, with: "z", end: false }));
+    all.extend(aliased("24 bytes that end alike", Alike { bytes: 24, with: "z", end: true }));
+    all.extend(aliased("4 bytes with symbols", Alike { bytes: 4, with: SYMBOLS, end: false }));
+    all.extend(aliased("24 bytes with symbols", Alike { bytes: 24, with: SYMBOLS, end: false }));
     all.extend(SHAPES.iter().map(|shape| Kind {
         name: format!("1,024 bytes: {}", shape.name),
-        aliases: 0,
+        aliases: Vec::new(),
         lines: vec![(shape.line)(1024)],
     }));
     all
@@ -111,7 +136,7 @@ pub fn sheet() -> Kind {
     let bytes: usize = lines.iter().map(String::len).sum();
     Kind {
         name: format!("20,000 lines of the reference sheet, {} bytes each", bytes / lines.len()),
-        aliases: 0,
+        aliases: Vec::new(),
         lines,
     }
 }
@@ -148,7 +173,7 @@ pub fn mixed() -> [Kind; 3] {
     ]
     .map(|(name, lines)| Kind {
         name,
-        aliases: 0,
+        aliases: Vec::new(),
         lines,
     })
 }

@@ -6,7 +6,7 @@ use std::hint::black_box;
 use std::time::Instant;
 
 use entry::Entry;
-use kinds::{alias, kinds, mixed, sheet, Kind, SHAPES};
+use kinds::{kinds, mixed, sheet, Kind, SHAPES};
 use oracle::command::{VimCommand, VimCommandMachine};
 use oracle::editing::application::EmptyInfo;
 use oracle::editing::context::EditContext;
@@ -42,12 +42,9 @@ impl Rust {
 fn both(kind: &Kind) -> (Rust, Entry) {
     let (mut rust, mut entry) = (Rust::fresh(), Entry::fresh());
 
-    if kind.aliases > 0 {
-        for number in 0..32 {
-            let word = alias(number, kind.aliases);
-            rust.add_alias(&word);
-            entry.add_alias(&word, CLOSE);
-        }
+    for word in &kind.aliases {
+        rust.add_alias(word);
+        entry.add_alias(word, CLOSE);
     }
 
     for line in &kind.lines {
@@ -116,7 +113,7 @@ fn growth() {
         let times = lengths.map(|n| {
             least(&Kind {
                 name: String::new(),
-                aliases: 0,
+                aliases: Vec::new(),
                 lines: vec![(shape.line)(n)],
             })
         });

@@ -4,9 +4,10 @@ use crate::record;
 use crate::refusal::Refusal;
 use crate::sys;
 use std::fmt;
+use std::hash::{Hash, Hasher};
 
 /// A session is as long as this in bytes.
-pub const SESSION_BYTES: usize = 1860;
+pub const SESSION_BYTES: usize = 1851;
 
 /// A line has at most so many bytes.
 pub const LINE_BYTES: usize = 1024;
@@ -14,9 +15,31 @@ pub const LINE_BYTES: usize = 1024;
 /// A store of so many bytes is enough for every line.
 pub(crate) const STORE_BYTES: usize = LINE_BYTES + 40;
 
-/// Where the aliases and the remembered line stand in a session's bytes: docs/SESSION-BYTES.md.
-const ALIASES: usize = 4;
-const LINE: usize = 836;
+/// Where the remembered line and the table of the added aliases stand in a session's bytes, and how many words the table has room
+/// for: docs/SESSION-BYTES.md.
+pub(crate) const LINE: usize = 2;
+pub(crate) const ADDED: usize = LINE + LINE_BYTES;
+const ALIASES: usize = 32;
+
+/// A table has a count for each length of a word.
+const LENGTHS: usize = 24;
+
+/// The used bytes of a table at a place, with room for so many words: its number and counts, its commands, its words.
+fn table(bytes: &[u8], at: usize, room: usize) -> [&[u8]; 3] {
+    let number = usize::from(bytes[at]);
+
+    if number == 0 {
+        return [&bytes[at..at + 1], &[], &[]];
+    }
+
+    let (head, rest) = bytes[at..].split_at(1 + LENGTHS);
+    let (commands, words) = rest.split_at(room);
+    let lengths = head[1..].iter().zip(1..);
+    let end = lengths
+        .map(|(&count, length)| usize::from(count) * length)
+        .sum();
+    [head, &commands[..number], &words[..end]]
+}
 
 /// A session: its added aliases, and the line that it remembers. It owns its bytes.
 ///
@@ -33,7 +56,7 @@ const LINE: usize = 836;
 /// ```
 ///
 /// Two sessions are equal if they have the same added aliases, whatever was added first, and remember the same line. So their used
-/// bytes are compared, and the free ones are not: docs/SESSION-BYTES.md says which are free, and why this is the same.
+/// bytes are compared and hashed, and the free ones are not: docs/SESSION-BYTES.md says which are free, and why this is the same.
 #[derive(Clone)]
 pub struct Session {
     /// Bytes that are taken as a session: a fresh one's, or checked by [`Session::from_bytes`]. Every call keeps that.
@@ -52,12 +75,12 @@ impl Session {
     /// The session that the bytes are taken as.
     ///
     /// ```
-    /// use pagyolint::{Refusal, Session};
+    /// use pagyolint::{Refusal, Session, SESSION_BYTES};
     ///
     /// let mut session = Session::new();
     /// session.input_cmd("q");
     /// assert_eq!(Session::from_bytes(session.as_bytes()), Ok(session));
-    /// assert_eq!(Session::from_bytes(&[0xff; 1860]), Err(Refusal::NotASession));
+    /// assert_eq!(Session::from_bytes(&[0xff; SESSION_BYTES]), Err(Refusal::NotASession));
     /// ```
     ///
     /// # Errors
@@ -148,14 +171,24 @@ impl Session {
         String::from_utf8(line).expect("a session remembers UTF-8 only")
     }
 
-    /// The bytes that are used: the two lengths, the aliases and the remembered line.
-    fn used(&self) -> [&[u8]; 3] {
-        let two = |at: usize| usize::from(u16::from_le_bytes([self.bytes[at], self.bytes[at + 1]]));
-        [
-            &self.bytes[..ALIASES],
-            &self.bytes[ALIASES..ALIASES + two(2)],
-            &self.bytes[LINE..LINE + two(0)],
-        ]
+    /// The bytes that are used: the line with its length, and those of the table of aliases.
+    fn used(&self) -> [&[u8]; 4] {
+        let length = usize::from(u16::from_le_bytes([self.bytes[0], self.bytes[1]]));
+        let [head, commands, words] = table(&self.bytes, ADDED, ALIASES);
+        [&self.bytes[..LINE + length], head, commands, words]
+    }
+
+    /// The added aliases and their commands' numbers, in the order of the table.
+    fn aliases(&self) -> Vec<(&str, u8)> {
+        let [head, commands, mut words] = table(&self.bytes, ADDED, ALIASES);
+        let counts = head[1..].iter().zip(1..);
+        let lengths = counts.flat_map(|(&count, length)| vec![length; usize::from(count)]);
+        let rows = lengths.zip(commands).map(|(length, &command)| {
+            let (word, rest) = words.split_at(length);
+            words = rest;
+            (std::str::from_utf8(word).expect("a word is ASCII"), command)
+        });
+        rows.collect()
     }
 }
 
@@ -173,12 +206,17 @@ impl PartialEq for Session {
 
 impl Eq for Session {}
 
+impl Hash for Session {
+    fn hash<H: Hasher>(&self, state: &mut H) {
+        self.used().hash(state);
+    }
+}
+
 impl fmt::Debug for Session {
     fn fmt(&self, f: &mut fmt::Formatter<'_>) -> fmt::Result {
-        let [_, aliases, _] = self.used();
         f.debug_struct("Session")
             .field("last_command", &self.last_command())
-            .field("aliases", &format_args!("{}", aliases.escape_ascii()))
+            .field("aliases", &self.aliases())
             .finish()
     }
 }

@@ -112,7 +112,7 @@ pub(crate) fn remembered(session: &[u8], store: &mut [u8]) -> CountReply {
 #[cfg(test)]
 mod tests {
     use super::*;
-    use crate::session::{LINE_BYTES, SESSION_BYTES, STORE_BYTES};
+    use crate::session::{ADDED, LINE, LINE_BYTES, SESSION_BYTES, STORE_BYTES};
     use crate::Refusal;
 
     const FILL: u8 = 0xa5;
@@ -124,10 +124,12 @@ mod tests {
     }
 
     #[test]
-    fn fresh_writes_four_bytes() {
-        let session = started();
-        assert_eq!(session[..4], [0; 4]);
-        assert!(session[4..].iter().all(|byte| *byte == FILL));
+    fn fresh_writes_three_bytes() {
+        let mut fresh = [FILL; SESSION_BYTES];
+        fresh[0] = 0;
+        fresh[1] = 0;
+        fresh[ADDED] = 0;
+        assert_eq!(started(), fresh);
     }
 
     #[test]
@@ -148,7 +150,7 @@ mod tests {
                     assert_ne!(reply.refusal, Refusal::StoreTooShort.number());
                     assert_eq!(reply.readings, 1);
                     assert!(written > 0);
-                    assert_eq!(session[836..836 + text.len()], *text);
+                    assert_eq!(session[LINE..LINE + text.len()], *text);
                 }
 
                 assert!(store[written..].iter().all(|byte| *byte == FILL));

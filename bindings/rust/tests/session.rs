@@ -1,6 +1,8 @@
 //! Every call on a session, and every refusal that a caller can meet.
 use pagyolint::{Accepted, Command, Refusal, Refused, Session, LINE_BYTES, SESSION_BYTES};
+use std::collections::hash_map::DefaultHasher;
 use std::collections::BTreeSet;
+use std::hash::{Hash, Hasher};
 
 fn refusal(session: &mut Session, line: &[u8]) -> Refusal {
     let answer = session.input_cmd(line);
@@ -10,6 +12,12 @@ fn refusal(session: &mut Session, line: &[u8]) -> Refusal {
 fn record(session: &mut Session, line: &str) -> Vec<u8> {
     let answer = session.input_cmd(line);
     answer.outcome.expect("the line is accepted").record
+}
+
+fn hash(session: &Session) -> u64 {
+    let mut hasher = DefaultHasher::new();
+    session.hash(&mut hasher);
+    hasher.finish()
 }
 
 /// Words of two letters: 32 of them, and more.
@@ -22,7 +30,8 @@ fn word(place: usize) -> String {
 fn a_fresh_session_remembers_the_empty_line() {
     let session = Session::new();
     assert_eq!(session.last_command(), "");
-    assert_eq!(session.as_bytes()[..4], [0; 4]);
+    assert_eq!(session.as_bytes()[..2], [0; 2]);
+    assert_eq!(session.as_bytes()[1026], 0);
     assert_eq!(session, Session::default());
 }
 
@@ -254,8 +263,11 @@ fn bytes_are_a_session_again() {
 
     // docs/SESSION-BYTES.md has this session as its example.
     let bytes = session.as_bytes();
-    assert_eq!(bytes[..7], [4, 0, 3, 0, 1, 25, b'v']);
-    assert_eq!(bytes[836..840], *b"v sp");
+    assert_eq!(bytes[..6], *b"\x04\x00v sp");
+    assert_eq!(bytes[1026..1028], [1, 1]);
+    assert_eq!(bytes[1028..1051], [0; 23]);
+    assert_eq!(bytes[1051], 25);
+    assert_eq!(bytes[1083], b'v');
 
     let mut again = Session::from_bytes(bytes).unwrap();
     assert_eq!(again, session);
@@ -277,10 +289,13 @@ fn equality_is_of_the_used_bytes() {
 
     // Every free byte may be anything, and every used one counts.
     let mut other = *short.as_bytes();
-    other[4..836].fill(0xff);
-    other[837..].fill(0xff);
-    assert_eq!(Session::from_bytes(&other), Ok(short.clone()));
-    other[836] = b'p';
+    other[3..1026].fill(0xff);
+    other[1027..].fill(0xff);
+    let same = Session::from_bytes(&other).unwrap();
+    assert_eq!(same, short);
+    assert_eq!(hash(&same), hash(&short));
+    assert_eq!(hash(&long), hash(&short));
+    other[2] = b'p';
     let other = Session::from_bytes(&other).unwrap();
     assert_ne!(other, short);
     assert_eq!(other.last_command(), "p");
@@ -293,8 +308,17 @@ fn equality_is_of_the_used_bytes() {
     ba.add_alias("b", Command::Only).unwrap();
     ba.add_alias("a", Command::Quit).unwrap();
     assert_eq!(ab, ba);
+    assert_eq!(hash(&ab), hash(&ba));
     ba.add_alias("a", Command::Only).unwrap();
     assert_ne!(ab, ba);
+
+    // With aliases, the bytes behind the last command and behind the last word are free.
+    let mut other = *ab.as_bytes();
+    other[1053..1083].fill(0xff);
+    other[1085..].fill(0xff);
+    assert_eq!(Session::from_bytes(&other), Ok(ab.clone()));
+    other[1084] = b'c';
+    assert_ne!(Session::from_bytes(&other).unwrap(), ab);
 
     // An added alias counts even if it leads where the shipped word does.
     let mut added = Session::new();
@@ -317,20 +341,23 @@ fn a_clone_goes_its_own_way() {
 #[test]
 fn damaged_bytes_are_refused() {
     let mut session = Session::new();
+    session.add_alias("bb", Command::Only).unwrap();
     session.add_alias("b", Command::Close).unwrap();
-    session.add_alias("ab", Command::Only).unwrap();
+    session.add_alias("ba", Command::Quit).unwrap();
     session.input_cmd("q");
 
     for (at, to) in [
-        (1, 5),      // a line above 1,024 bytes
-        (3, 4),      // aliases above 832 bytes
-        (2, 6),      // the last alias cut short
-        (4, 3),      // a word's length that is not its own
-        (4, 0),      // an empty word
-        (5, 28),     // a command above 27
-        (6, b'!'),   // a byte that is no word character
-        (6, b'c'),   // words that do not ascend
-        (836, 0xff), // a line that is not UTF-8
+        (1, 5),       // a line above 1,024 bytes
+        (2, 0xff),    // a line that is not UTF-8
+        (1026, 2),    // fewer aliases than the counts add up to
+        (1026, 4),    // more of them
+        (1026, 33),   // more than there can be
+        (1027, 0),    // a count that is too low
+        (1050, 1),    // a count that is too high
+        (1051, 28),   // a command above 27
+        (1083, b'!'), // a byte that is no word character
+        (1085, b'c'), // words that do not ascend
+        (1087, b'a'), // a word that stands twice
     ] {
         let mut bytes = *session.as_bytes();
         assert_ne!(bytes[at], to);
@@ -352,10 +379,19 @@ fn damaged_bytes_are_refused() {
 #[test]
 fn debug_shows_line_and_aliases() {
     let mut session = Session::new();
-    session.add_alias("v", Command::Vertical).unwrap();
     session.input_cmd("v \"");
     assert_eq!(
         format!("{session:?}"),
-        r#"Session { last_command: "v \"", aliases: \x01\x19v }"#
+        r#"Session { last_command: "v \"", aliases: [] }"#
+    );
+
+    // Shorter words stand first, and of those of one length the one whose last byte is lower.
+    session.add_alias("tab", Command::View).unwrap();
+    session.add_alias("ab", Command::Tab).unwrap();
+    session.add_alias("ba", Command::Quit).unwrap();
+    session.add_alias("v", Command::Vertical).unwrap();
+    assert_eq!(
+        format!("{session:?}"),
+        r#"Session { last_command: "v \"", aliases: [("v", 25), ("ba", 7), ("ab", 13), ("tab", 12)] }"#
     );
 }

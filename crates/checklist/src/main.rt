@@ -3,10 +3,10 @@
 mod orders_part;
 mod spellings_part;
 
+use layout::places::SESSION;
 use libc::STDOUT_FILENO;
 use orders_part::put_orders;
 use scan::part::part;
-use session::layout::SESSION;
 use session::lent::fresh_in;
 use sheet::sheet::Report;
 use sheet::sheet::flush;

@@ -7,8 +7,8 @@ use mathlib.Core.List.{List, [], _∷_}
 use mathlib.Core.Option.{Option, none, some}
 use Prim.Native.Nat.{ℕ, _+_, _/_, min}
 use lib.ListN.{length}
-use Rattle.aliases.specs.Good.{isAlias}
 use Rattle.words.specs.Words.{Row}
+use Rattle.tables.specs.Table.{isName}
 use Rattle.commands.specs.Run.{roleNamed}
 use Rattle.commands.specs.declared.next.Role.{Role}
 
@@ -49,4 +49,4 @@ limit (some m) n = (n + 1) / (m + 1) + 1
 -- added aliases: each 1 to 24 word characters
 abbrev pub Aliases : List Row → Type 0
 Aliases [] = Unit {0}
-Aliases (r ∷ rs) = (isAlias (r .word) ≡ true) × Aliases rs
+Aliases (r ∷ rs) = (isName (r .word) ≡ true) × Aliases rs

@@ -13,11 +13,10 @@ use lib.ListN.{length}
 use borrow.Author.Tests.{leb-true, leb-false}
 use Rattle.scan.specs.Bytes.{isWord}
 use Rattle.scan.specs.Scan.{runAt, runFrom}
-use Rattle.aliases.specs.Good.{isAlias}
-use Rattle.aliases.specs.RowsLaws.{lookup-past}
-use Rattle.aliases.specs.TableLaws.{same-eq}
 use Rattle.words.specs.Words.{Row, aliases, names, shipped, tableWith, same, lookupIn}
+use Rattle.words.specs.LookupLaws.{same-eq, lookup-past}
 use Rattle.words.specs.declared.words.Named.{Named}
+use Rattle.tables.specs.Table.{isName}
 use Rattle.commands.specs.Handle.{roleOf, IsPrefix}
 use Rattle.commands.specs.Run.{roleAt, roleNamed}
 use Rattle.commands.specs.declared.next.Role.{Role}
@@ -152,12 +151,12 @@ module _ (table : List Row) where
 -- `!` names no prefix ------------------------------------------------------------------------------------------------------------------------
 
 -- no alias is spelled so
-alias-bang : (w : List ℕ) → isAlias w ≡ true → same (0x21 ∷ []) w ≡ false
-unfolding isAlias runAt runFrom isWord
+alias-bang : (w : List ℕ) → isName w ≡ true → same (0x21 ∷ []) w ≡ false
+unfolding isName runAt runFrom isWord
 alias-bang w h = go (same (0x21 ∷ []) w) refl
   where
     go : (b : Bool) → same (0x21 ∷ []) w ≡ b → b ≡ false
-    go true e = absurd (false≢true (ap isAlias (same-eq (0x21 ∷ []) w e) ∙ h))
+    go true e = absurd (false≢true (ap isName (same-eq (0x21 ∷ []) w e) ∙ h))
     go false e = refl
 
 bang-lookup : (added : List Row) → Aliases added → lookupIn (tableWith added) (0x21 ∷ []) ≡ lookupIn shipped (0x21 ∷ [])

@@ -1,9 +1,9 @@
 // Runs standard input as a sheet, a line each, on one session, with aliases from the file that an argument names. Prints a line for each
 // bad alias, a line for each line of the sheet, and a line that sums up.
+use layout::places::SESSION;
 use libc::STDIN_FILENO;
 use libc::STDOUT_FILENO;
 use scan::part::part;
-use session::layout::SESSION;
 use session::lent::fresh_in;
 use sheet::sheet::flush;
 use sheet::sheet::fresh_report;

@@ -2,37 +2,38 @@
 -- and so of every session that a call takes, since its aliases are 1 to 24 word characters.
 -- Assumes nothing.
 use mathlib.Core.Path.{_≡_}
-use mathlib.Core.Bool.{true}
+use mathlib.Core.Bool.{true, _&&_}
 use mathlib.Core.List.{List, [], _∷_}
 use Prim.Native.Nat.{ℕ, _+_, _≤_}
 use lib.Dec.{leb}
 use lib.ListN.{length}
-use Rattle.limits.specs.Limits.{aliasLimit}
+use Rattle.limits.specs.Limits.{lastCommand, aliasLimit}
 use Rattle.words.specs.Words.{Row}
-use Rattle.aliases.specs.Good.{goodRow, goodRows, goodTable}
-use Rattle.aliases.specs.TableLaws.{both, row-told}
+use Rattle.fields.specs.BoolLaws.{and-both}
+use Rattle.tables.specs.Table.{isAfter, isName, goodRow, goodRows, goodTable}
 use Rattle.context.specs.Context.{fresh}
 use Rattle.reading.specs.Behind.{NoNewline}
 use Rattle.commands.specs.Line.{storeAfter}
 use Rattle.demands.specs.Statement.{Passes, joined, typed, AllAlone, contextFrom, lasts, AboutLists, AboutReadings}
 use Rattle.demands.specs.Shortest.{shortest, limit, Aliases}
 use Rattle.demands.specs.Demand3.{demand3-lists, demand3-readings, demand3-limit}
-use Rattle.session.specs.Layout.{Session, WellFormed, tableOf, sessionOf, sound}
+use Rattle.layout.specs.Layout.{Session, wellFormed, tableOf, sessionOf, sound}
+use Rattle.layout.specs.SoundLaws.{formed-rows, sound-rows}
 use Rattle.session.specs.Lent.{lineAnswer}
-use Rattle.session.specs.SoundLaws.{sound-formed}
 
 -- aliases -----------------------------------------------------------------------------------------------------------------------------------
 
 rows-aliases : (before : List ℕ) (rs : List Row) → goodRows before rs ≡ true → Aliases rs
-unfolding goodRows
+unfolding goodRows goodRow
 rows-aliases before [] h = tt
 rows-aliases before (r ∷ rs) h =
-    let k = both (goodRow before (length (r .word)) (r .command) (r .word)) (goodRows (r .word) rs) h in
-    (row-told before (length (r .word)) (r .command) (r .word) (k .0) .an-alias, rows-aliases (r .word) rs (k .1))
+    let k = and-both (goodRow before r) (goodRows (r .word) rs) h in
+    let n = and-both (isAfter before (r .word) && isName (r .word)) (leb (r .command) lastCommand) (k .0) .0 in
+    (and-both (isAfter before (r .word)) (isName (r .word)) n .1, rows-aliases (r .word) rs (k .1))
 
-pub good-aliases : (rs : List Row) → goodTable rs ≡ true → Aliases rs
+good-aliases : (rs : List Row) → goodTable aliasLimit rs ≡ true → Aliases rs
 unfolding goodTable
-good-aliases rs h = rows-aliases [] rs (both (goodRows [] rs) (leb (length rs) aliasLimit) h .0)
+good-aliases rs h = rows-aliases [] rs (and-both (goodRows [] rs) (leb (length rs) aliasLimit) h .0)
 
 -- a session ---------------------------------------------------------------------------------------------------------------------------------
 
@@ -40,14 +41,14 @@ good-aliases rs h = rows-aliases [] rs (both (goodRows [] rs) (leb (length rs) a
 pub session-lists : (s : Session) → AboutLists (tableOf s)
 session-lists s = demand3-lists (s .rows)
 
-module _ (s : Session) (f : WellFormed s) where
+module _ (s : Session) (f : wellFormed s ≡ true) where
   -- the readings of a line
   pub session-readings : AboutReadings (tableOf s)
-  session-readings = demand3-readings (s .rows) (good-aliases (s .rows) (f .aliases))
+  session-readings = demand3-readings (s .rows) (good-aliases (s .rows) (formed-rows s f))
 
   -- the same, with the shortest word's length computed
   pub session-limit : (l store : List ℕ) → typed (tableOf s) fresh l store .readings ≤ limit (shortest (tableOf s)) (length l)
-  session-limit = demand3-limit (s .rows) (good-aliases (s .rows) (f .aliases))
+  session-limit = demand3-limit (s .rows) (good-aliases (s .rows) (formed-rows s f))
 
 -- bytes -------------------------------------------------------------------------------------------------------------------------------------
 
@@ -74,9 +75,9 @@ module _ (b : List ℕ) (h : sound b ≡ true) where
 
   -- the readings of a line
   pub bytes-readings : AboutReadings (wordsOf b)
-  bytes-readings = session-readings (sessionOf b) (sound-formed b h)
+  bytes-readings = demand3-readings (sessionOf b .rows) (good-aliases (sessionOf b .rows) (sound-rows b h))
 
   -- what the call on a line answers
   pub bytes-limit : (l store : List ℕ) → lineAnswer b l (length store) .readings ≤ limit (shortest (wordsOf b)) (length l)
   unfolding lineAnswer
-  bytes-limit l store = rw h (session-limit (sessionOf b) (sound-formed b h) l store)
+  bytes-limit l store = rw h (demand3-limit (sessionOf b .rows) (good-aliases (sessionOf b .rows) (sound-rows b h)) l store)

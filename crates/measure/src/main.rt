@@ -1,5 +1,7 @@
 // A reading or a run of a text, to be counted in instructions: the first byte of standard input says which, the rest is the text.
 // It prints a number that depends on the answer, so that no work is left out.
+use layout::bytes::sound;
+use layout::places::SESSION;
 use libc::STDIN_FILENO;
 use libc::STDOUT_FILENO;
 use limits::LINE;
@@ -9,9 +11,6 @@ use reading::alone::OptionsReply;
 use reading::alone::RangeReply;
 use reading::alone::StringsReply;
 use reading::line::CommandRead;
-use scan::classes::classes;
-use session::bytes::sound;
-use session::layout::SESSION;
 use session::lent::fresh_in;
 use session::lent::line_in;
 use words::words::Named;
@@ -63,7 +62,7 @@ fn by_options(text: &[u8]) -> u64 {
 }
 
 fn by_lookup(text: &[u8]) -> u64 {
-    match aliases::lookup::lookup_in(&text[0..0], text) {
+    match layout::lookup::find_word(&text[0..0], text) {
         Named::Command(n) => n,
         Named::Unknown => 28,
     }
@@ -94,8 +93,7 @@ fn by_session(text: &[u8]) -> u64 {
     let mut session = [0u8; SESSION];
     fresh_in(&mut session);
     let n = run_line(&mut session, text);
-    let table = classes();
-    if sound(&session, &table) { n } else { 0 }
+    if sound(&session) { n } else { 0 }
 }
 
 // `0` does nothing: what the program itself costs.

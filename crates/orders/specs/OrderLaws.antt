@@ -8,8 +8,7 @@ use Prim.Native.Nat.{ℕ, zero, suc}
 use lib.Dec.{eqb}
 use lib.ListN.{length}
 use Rattle.words.specs.Words.{same}
-use Rattle.aliases.specs.Order.{orderOf as compared}
-use Rattle.aliases.specs.Good.{isLess}
+use Rattle.words.specs.Order.{isBefore}
 use Rattle.orders.specs.Order.{numbersFrom, without, ordersFrom, orderOf, factorial, ordersOf}
 
 -- a test holds of each number below n
@@ -29,7 +28,7 @@ eachOnce count o = eqb (length o) count && below count (λ (x : ℕ). eqb (times
 -- the first order is that of the line, and each other one comes behind the one before it
 abbrev pub inPlace : ℕ → ℕ → Bool
 inPlace count zero = same (orderOf count 0) (numbersFrom 0 count)
-inPlace count (suc n) = isLess (compared (orderOf count n) (orderOf count (suc n)))
+inPlace count (suc n) = isBefore (orderOf count n) (orderOf count (suc n))
 
 -- there are as many orders of `count` things as can be, and each is right and in its place
 abbrev pub allRight : ℕ → Bool
@@ -38,5 +37,5 @@ allRight count =
 
 -- of 0 to 5 things
 pub orders-right : below 6 allRight ≡ true
-unfolding numbersFrom without ordersFrom orderOf factorial ordersOf flatMap same compared isLess
+unfolding numbersFrom without ordersFrom orderOf factorial ordersOf flatMap same isBefore
 orders-right = refl

@@ -10,7 +10,7 @@ use lib.Bits.{bitOr}
 use lib.ListN.{set, take}
 use borrow.Author.Tests.{eq-eqb, ne-eqb, lt-leb}
 use Rattle.words.specs.Words.{same}
-use Rattle.aliases.specs.TableLaws.{same-eq}
+use Rattle.words.specs.LookupLaws.{same-eq}
 use Rattle.orders.specs.Order.{numbersFrom, without, ordersFrom, orderOf, factorial, ordersOf}
 use Rattle.orders.specs.OrderLaws.{below}
 use Rattle.orders.specs.Picking.{weightOf, isIn, freeIn, freeFrom, pickedOf, pickedIn, pickedFrom, unpicked}

@@ -3,12 +3,12 @@ use entries::pagyolint_alias;
 use entries::pagyolint_fresh;
 use entries::pagyolint_line;
 use entries::pagyolint_remembered;
+use layout::places::SESSION;
 use limits::LINE;
 use limits::STORE;
 use run::reply::LineReply;
 use scan::part::byte_at;
 use scan::part::part;
-use session::layout::SESSION;
 
 // The session's bytes after a vector, and where its answer ends.
 pub struct Answered {

@@ -1,10 +1,10 @@
 // Replays the oracle's vectors and prints how many agree. An answer is built as the oracle writes it, byte for byte.
 mod lines;
 
+use layout::places::SESSION;
 use libc::STDIN_FILENO;
 use lines::Answered;
 use scan::part::part;
-use session::layout::SESSION;
 use vectors::Frame;
 use vectors::Tally;
 

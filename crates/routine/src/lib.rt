@@ -4,7 +4,7 @@ use session::value::Session;
 ghost use mathlib.Core.Path.{_≡_};
 ghost use lib.ListN.{length, replicate};
 ghost use Rattle.commands.specs.Line.{storeAfter};
-ghost use Rattle.session.specs.Layout.{sessionSize, fresh as freshOne, written};
+ghost use Rattle.layout.specs.Layout.{sessionSize, fresh as freshOne, written};
 ghost use Rattle.run.specs.Reply.{reply};
 ghost use Rattle.session.specs.Lent.{lineAnswer, lineBytes, aliasNo, aliasBytes};
 

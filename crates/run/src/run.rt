@@ -4,7 +4,6 @@ use super::reply::end_done;
 use super::reply::end_nothing;
 use super::reply::end_refused;
 use super::reply::end_unknown;
-use aliases::lookup::lookup_in;
 use blocks::run::skip_spaces;
 use blocks::text::text_stop;
 use commands::handle::handle;
@@ -12,6 +11,7 @@ use commands::next::Next;
 use commands::next::by_name;
 use commands::next::changed;
 use context::context::CommandContext;
+use layout::lookup::find_word;
 use limits::refusal::Refusal;
 use reading::line::CommandRead;
 use reading::line::description_again;
@@ -24,17 +24,16 @@ ghost use Rattle.limits.specs.Limits.{spare};
 ghost use Rattle.scan.specs.Bytes.{Classes, isText};
 ghost use Rattle.scan.specs.Scan.{runAt};
 ghost use Rattle.context.specs.Context.{fresh as freshOne};
-ghost use Rattle.words.specs.Words.{tableWith};
-ghost use Rattle.aliases.specs.Rows.{rowsOf};
+ghost use Rattle.layout.specs.Layout.{sessionOf, tableOf};
 ghost use Rattle.commands.specs.Run.{decide as decideOf, lineFrom};
 ghost use Rattle.commands.specs.Line.{storeAfter};
 ghost use Rattle.run.specs.Reply.{reply};
 
 // What one reading of a text leads to, where the first 0x0A of the text, or its end, is at `stop`.
-fn decide(s: &[u8], stop: usize, added: &[u8], classes: &[u8; 256]) -> Next
+fn decide(s: &[u8], stop: usize, session: &[u8], classes: &[u8; 256]) -> Next
     requires { ⌜ stop ≡ runAt isText (now s) 0 ⌝ }
     requires { ⌜ Classes (now classes) ⌝ }
-    ensures { λ r. ⌜ r ≡ decideOf (tableWith (rowsOf (now (added .entry)))) (now (s .entry)) ⌝ }
+    ensures { λ r. ⌜ r ≡ decideOf (tableOf (sessionOf (now (session .entry)))) (now (s .entry)) ⌝ }
 {
     match parse_cmd_descr(s, stop, classes) {
         CommandRead::Command(d) => {
@@ -43,19 +42,19 @@ fn decide(s: &[u8], stop: usize, added: &[u8], classes: &[u8; 256]) -> Next
             if a == e {
                 return Next::Empty;
             }
-            by_name(s, d, lookup_in(added, part(s, a, e)))
+            by_name(s, d, find_word(session, part(s, a, e)))
         }
         CommandRead::Failed => Next::Refused(Refusal::ParseFailed),
         CommandRead::TooLarge => Next::Refused(Refusal::NumberTooLarge),
     }
 }
 
-// The run of a line with the added aliases, lent as bytes. What it ends with is written at the front of the store.
-pub fn run(line: &[u8], added: &[u8], store: &mut [u8], classes: &[u8; 256]) -> LineReply
+// The run of a line on a session that is lent to read. What it ends with is written at the front of the store.
+pub fn run(line: &[u8], session: &[u8], store: &mut [u8], classes: &[u8; 256]) -> LineReply
     requires { ⌜ Classes (now classes) ⌝ }
     requires { ⌜ length (now line) + spare ≤ length (now store) ⌝ }
-    ensures answer { λ r. ⌜ r ≡ reply (lineFrom (tableWith (rowsOf (now (added .entry)))) freshOne (now (line .entry))) ⌝ }
-    ensures store { λ r. ⌜ now (store .exit) ≡ storeAfter (lineFrom (tableWith (rowsOf (now (added .entry)))) freshOne (now (line .entry)) .out) (now (store .entry)) ⌝ }
+    ensures answer { λ r. ⌜ r ≡ reply (lineFrom (tableOf (sessionOf (now (session .entry)))) freshOne (now (line .entry))) ⌝ }
+    ensures store { λ r. ⌜ now (store .exit) ≡ storeAfter (lineFrom (tableOf (sessionOf (now (session .entry)))) freshOne (now (line .entry)) .out) (now (store .entry)) ⌝ }
     ensures size { λ r. ⌜ length (now (store .exit)) ≡ length (now (store .entry)) ⌝ }
 {
     let mut x = CommandContext::fresh();
@@ -66,7 +65,7 @@ pub fn run(line: &[u8], added: &[u8], store: &mut [u8], classes: &[u8; 256]) -> 
     loop {
         let m = n + 1;
         let s = part(line, from, to);
-        match decide(s, stop, added, classes) {
+        match decide(s, stop, session, classes) {
             Next::Empty => {
                 return end_nothing(m as u64, store);
             }

@@ -4,7 +4,7 @@
 -- line back copies it to the front of a lent store and answers its byte count, all other bytes unchanged; a store shorter than that line
 -- is refusal 12 and stays untouched." "one call, which checks only the length, writes a fresh session there".
 -- Assumes nothing.
-use mathlib.Core.Bool.{Bool, false, cond}
+use mathlib.Core.Bool.{cond}
 use mathlib.Core.List.{List}
 use Prim.Native.Nat.{ℕ}
 use lib.Dec.{eqb, leb}
@@ -14,13 +14,11 @@ use Rattle.limits.specs.Refusals.{refusalNo}
 use Rattle.limits.specs.declared.refusal.Refusal.{Refusal}
 use Rattle.context.specs.Context as context
 use Rattle.reading.specs.Alone.{lineRoom, checkedFor, atFront}
-use Rattle.words.specs.Words.{Row, lookupIn}
-use Rattle.words.specs.declared.words.Named.{Named}
-use Rattle.aliases.specs.Good.{isAlias}
-use Rattle.aliases.specs.Add.{insert}
+use Rattle.tables.specs.Table.{isName}
+use Rattle.placing.specs.Change.{insert, isFull}
+use Rattle.layout.specs.Layout.{sessionSize, Session, fresh, tableOf, sessionOf, remembering, aliasing, written, sound}
 use Rattle.commands.specs.Run.{Answer}
 use Rattle.commands.specs.Line.{turned, line}
-use Rattle.session.specs.Layout.{sessionSize, Session, fresh, tableOf, lineOf, sessionOf, remembering, aliasing, written, sound}
 
 -- a fresh session ---------------------------------------------------------------------------------------------------------------------------
 
@@ -48,18 +46,10 @@ lineBytes b l size = cond (sound b) (bytesOn b l size) b
 
 -- an alias ------------------------------------------------------------------------------------------------------------------------------------
 
--- "A new alias when 32 are there."
-abbrev isNew : Named → Bool → Bool
-isNew (Named.Command n) b = false
-isNew Named.Unknown b = b
-
-unfoldable pub isFull : List Row → List ℕ → Bool
-isFull rs w = isNew (lookupIn rs w) (leb aliasLimit (length rs))
-
--- 8, 9, 13
+-- 8, 9, 13: "A new alias when 32 are there."
 unfoldable pub addNo : Session → List ℕ → ℕ → ℕ
 addNo s w c =
-    cond (isAlias w) (cond (leb c lastCommand) (cond (isFull (s .rows) w) (refusalNo Refusal.AliasesFull) 0) (refusalNo Refusal.BadCommand)) (refusalNo Refusal.BadAlias)
+    cond (isName w) (cond (leb c lastCommand) (cond (isFull aliasLimit (s .rows) w) (refusalNo Refusal.AliasesFull) 0) (refusalNo Refusal.BadCommand)) (refusalNo Refusal.BadAlias)
 
 unfoldable pub aliasNo : List ℕ → List ℕ → ℕ → ℕ
 aliasNo b w c = cond (sound b) (addNo (sessionOf b) w c) (refusalNo Refusal.NotASession)
@@ -70,10 +60,10 @@ aliasBytes b w c = cond (eqb (aliasNo b w c) 0) (aliasing (insert w c (sessionOf
 -- the remembered line -------------------------------------------------------------------------------------------------------------------------
 
 unfoldable pub readBackNo : List ℕ → ℕ → ℕ
-readBackNo b size = cond (sound b) (cond (leb (length (lineOf b)) size) 0 (refusalNo Refusal.StoreTooShort)) (refusalNo Refusal.NotASession)
+readBackNo b size = cond (sound b) (cond (leb (length (sessionOf b .line)) size) 0 (refusalNo Refusal.StoreTooShort)) (refusalNo Refusal.NotASession)
 
 unfoldable pub readBackCount : List ℕ → ℕ → ℕ
-readBackCount b size = cond (eqb (readBackNo b size) 0) (length (lineOf b)) 0
+readBackCount b size = cond (eqb (readBackNo b size) 0) (length (sessionOf b .line)) 0
 
 unfoldable pub readBackStore : List ℕ → List ℕ → List ℕ
-readBackStore b store = cond (eqb (readBackNo b (length store)) 0) (atFront (lineOf b) store) store
+readBackStore b store = cond (eqb (readBackNo b (length store)) 0) (atFront (sessionOf b .line) store) store

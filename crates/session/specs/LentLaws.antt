@@ -1,30 +1,25 @@
 -- Laws of the calls on a session in bytes, as the code cites them: one for each way in which a call ends.
 -- Assumes nothing.
-use mathlib.Core.Path.{_≡_, refl, _∙_, ap}
+use mathlib.Core.Path.{_≡_, refl}
 use mathlib.Core.Bool.{true, false}
-use mathlib.Core.List.{List, _++_}
-use Prim.Native.Nat.{ℕ, _+_, _-_, _≤_}
-use native.Mathlib.Omega.{arith}
+use mathlib.Core.List.{List}
+use Prim.Native.Nat.{ℕ, _-_}
 use lib.Dec.{leb}
-use lib.ListN.{length, take, drop}
-use lib.Seq.{take-append-seam}
-use Rattle.limits.specs.Limits.{lastCommand}
+use lib.ListN.{length}
+use Rattle.limits.specs.Limits.{lastCommand, aliasLimit}
 use Rattle.limits.specs.Refusals.{refusalNo}
 use Rattle.limits.specs.declared.refusal.Refusal.{Refusal}
-use Rattle.scan.specs.Scan.{partOf}
-use Rattle.store.specs.Splice.{Put, sets-front}
 use Rattle.context.specs.Context as context
 use Rattle.reading.specs.Alone.{checkFor, lineRoom, atFront}
 use Rattle.reading.specs.Checks.{checkFor-good, checkFor-bad}
 use Rattle.reading.specs.declared.alone.Checked.{Checked}
-use Rattle.aliases.specs.Rows.{rowsOf}
-use Rattle.aliases.specs.Good.{isAlias}
-use Rattle.aliases.specs.Add.{insert}
+use Rattle.tables.specs.Table.{isName}
+use Rattle.placing.specs.Change.{insert, isFull}
+use Rattle.layout.specs.Layout.{tableOf, sessionOf, remembering, aliasing, sound}
 use Rattle.commands.specs.Run.{outNo, outBytes, lineFrom}
 use Rattle.commands.specs.Line.{turned, line, storeAfter}
 use Rattle.run.specs.Reply.{reply}
-use Rattle.session.specs.Layout.{tableOf, areaOf, lineOf, sessionOf, remembering, aliasing, sound}
-use Rattle.session.specs.Lent.{lineOn, bytesOn, lineAnswer, lineBytes, isFull, addNo, aliasNo, aliasBytes, readBackNo, readBackCount, readBackStore}
+use Rattle.session.specs.Lent.{lineOn, bytesOn, lineAnswer, lineBytes, addNo, aliasNo, aliasBytes, readBackNo, readBackCount, readBackStore}
 
 -- a line --------------------------------------------------------------------------------------------------------------------------------------
 
@@ -62,22 +57,22 @@ module _ (b w : List ℕ) (c : ℕ) where
   alias-99 h = (rw h, rw h)
 
   module _ (h : sound b ≡ true) where
-    pub alias-word : isAlias w ≡ false → (aliasNo b w c ≡ refusalNo Refusal.BadAlias) × (aliasBytes b w c ≡ b)
+    pub alias-word : isName w ≡ false → (aliasNo b w c ≡ refusalNo Refusal.BadAlias) × (aliasBytes b w c ≡ b)
     unfolding aliasNo aliasBytes addNo
     alias-word k = (rw (h, k), rw (h, k))
 
-    module _ (k : isAlias w ≡ true) where
+    module _ (k : isName w ≡ true) where
       pub alias-command : leb c lastCommand ≡ false → (aliasNo b w c ≡ refusalNo Refusal.BadCommand) × (aliasBytes b w c ≡ b)
       unfolding aliasNo aliasBytes addNo
       alias-command l = (rw (h, k, l), rw (h, k, l))
 
       module _ (l : leb c lastCommand ≡ true) where
-        pub alias-full : isFull (rowsOf (areaOf b)) w ≡ true → (aliasNo b w c ≡ refusalNo Refusal.AliasesFull) × (aliasBytes b w c ≡ b)
-        unfolding aliasNo aliasBytes addNo sessionOf
+        pub alias-full : isFull aliasLimit (sessionOf b .rows) w ≡ true → (aliasNo b w c ≡ refusalNo Refusal.AliasesFull) × (aliasBytes b w c ≡ b)
+        unfolding aliasNo aliasBytes addNo
         alias-full f = (rw (h, k, l, f), rw (h, k, l, f))
 
-        pub alias-added : isFull (rowsOf (areaOf b)) w ≡ false → (aliasNo b w c ≡ 0) × (aliasBytes b w c ≡ aliasing (insert w c (rowsOf (areaOf b))) b)
-        unfolding aliasNo aliasBytes addNo sessionOf
+        pub alias-added : isFull aliasLimit (sessionOf b .rows) w ≡ false → (aliasNo b w c ≡ 0) × (aliasBytes b w c ≡ aliasing (insert w c (sessionOf b .rows)) b)
+        unfolding aliasNo aliasBytes addNo
         alias-added f = (rw (h, k, l, f), rw (h, k, l, f))
 
 -- the remembered line --------------------------------------------------------------------------------------------------------------------------
@@ -92,17 +87,10 @@ module _ (b store : List ℕ) where
   unfolding readBackNo readBackCount readBackStore
   read-back-99 h = (rw h, (rw h, rw h))
 
-  pub read-back-short : sound b ≡ true → leb (length (lineOf b)) (length store) ≡ false → ReadBack (refusalNo Refusal.StoreTooShort) 0 store
+  pub read-back-short : sound b ≡ true → leb (length (sessionOf b .line)) (length store) ≡ false → ReadBack (refusalNo Refusal.StoreTooShort) 0 store
   unfolding readBackNo readBackCount readBackStore
   read-back-short h k = (rw (h, k), (rw (h, k), rw (h, k)))
 
-  pub read-back-good : sound b ≡ true → leb (length (lineOf b)) (length store) ≡ true → ReadBack 0 (length (lineOf b)) (atFront (lineOf b) store)
+  pub read-back-good : sound b ≡ true → leb (length (sessionOf b .line)) (length store) ≡ true → ReadBack 0 (length (sessionOf b .line)) (atFront (sessionOf b .line) store)
   unfolding readBackNo readBackCount readBackStore
   read-back-good h k = (rw (h, k), (rw (h, k), rw (h, k)))
-
--- the bytes at the front of what was written
-pub taken : {s s₁ v : List ℕ} {r : ℕ} → Put s s₁ 0 r v → r ≤ length s → partOf s₁ 0 r ≡ v
-taken {s} {s₁} {v} {r} p h =
-    let e : r - 0 ≡ length v = omega (arith, p .place) in
-    let f : s₁ ≡ v ++ drop (length v) s = p .store ∙ sets-front s v (omega (arith, p .place)) in
-    ap (λ x. partOf x 0 r) f ∙ ap (λ (n : ℕ). take n (v ++ drop (length v) s)) e ∙ take-append-seam v (drop (length v) s)

@@ -1,5 +1,2 @@
-pub mod Layout
-pub mod SetsLaws
 pub mod Lent
-pub mod SoundLaws
 pub mod LentLaws

@@ -1,47 +1,36 @@
 // The calls on a session that rests in lent bytes. Each looks first at whether some session is written as these bytes: refusal 99.
-use super::bytes::area;
-use super::bytes::put_two;
-use super::bytes::remember;
-use super::bytes::remembered;
-use super::bytes::sound;
-use super::layout::AREA;
-use super::layout::AREA_BYTES;
-use super::layout::AREA_COUNT;
-use super::layout::LINE_COUNT;
-use super::layout::SESSION;
-use aliases::add::count;
-use aliases::add::put_with;
-use aliases::good::is_alias;
-use aliases::lookup::find;
+use layout::bytes::clear;
+use layout::bytes::remember;
+use layout::bytes::remembered;
+use layout::bytes::sound;
+use layout::places::ADDED;
+use layout::places::SESSION;
 use limits::ALIASES;
 use limits::LAST_COMMAND;
 use limits::refusal::Refusal;
 use limits::refusal::number;
+use placing::insert::insert;
 use reading::alone::Checked;
 use reading::alone::check_line;
 use run::reply::LineReply;
 use run::run::run;
 use scan::classes::classes;
-use scan::part::part;
 use store::put_bytes;
-use words::words::Named;
+use tables::name::is_name;
 ghost use mathlib.Core.Path.{_≡_};
-ghost use mathlib.Core.Bool.{true, false};
+ghost use mathlib.Core.Bool.{true};
 ghost use Prim.Native.Nat.{_≤_};
 ghost use lib.ListN.{length};
-ghost use Rattle.limits.specs.Limits.{lineLimit, lastCommand};
+ghost use Rattle.limits.specs.Limits.{lineLimit};
 ghost use Rattle.limits.specs.Refusals.{refusalNo};
 ghost use Rattle.scan.specs.Bytes.{Classes};
 ghost use Rattle.reading.specs.Alone.{lineRoom};
 ghost use Rattle.context.specs.Context.{fresh as freshContext};
-ghost use Rattle.aliases.specs.Rows.{rowsOf};
-ghost use Rattle.aliases.specs.Good.{isAlias};
-ghost use Rattle.aliases.specs.Add.{insert};
 ghost use Rattle.commands.specs.Run.{lineFrom};
 ghost use Rattle.commands.specs.Line.{turned as turnedOf, storeAfter};
 ghost use Rattle.run.specs.Reply.{reply};
-ghost use Rattle.session.specs.Layout.{sessionSize, areaOf, sessionOf, tableOf, remembering, aliasing, sound as soundOf};
-ghost use Rattle.session.specs.Lent.{isFull, freshNo, freshBytes, lineOn, bytesOn, lineAnswer, lineBytes, aliasNo, aliasBytes, readBackNo, readBackCount, readBackStore};
+ghost use Rattle.layout.specs.Layout.{sessionSize, sessionOf, tableOf, remembering, sound as soundOf};
+ghost use Rattle.session.specs.Lent.{freshNo, freshBytes, lineOn, bytesOn, lineAnswer, lineBytes, aliasNo, aliasBytes, readBackNo, readBackCount, readBackStore};
 
 // What reading the remembered line back answers: the refusal's number or 0, and the line's byte count.
 #[repr(C)]
@@ -58,8 +47,7 @@ pub fn fresh_in(b: &mut [u8]) -> u64
     if b.len() != SESSION {
         return number(Refusal::NotASession);
     }
-    put_two(b, LINE_COUNT, 0);
-    put_two(b, AREA_COUNT, 0);
+    clear(b);
     0
 }
 
@@ -73,7 +61,7 @@ fn run_in(b: &mut [u8], line: &[u8], store: &mut [u8], classes: &[u8; 256]) -> L
     ensures store { λ r. ⌜ now (store .exit) ≡ storeAfter (lineFrom (tableOf (sessionOf (now (b .entry)))) freshContext (now (line .entry)) .out) (now (store .entry)) ⌝ }
     ensures session { λ r. ⌜ now (b .exit) ≡ remembering (now (line .entry)) (now (b .entry)) ⌝ }
 {
-    let reply = run(line, area(b), store, classes);
+    let reply = run(line, b, store, classes);
     remember(b, line);
     reply
 }
@@ -109,35 +97,11 @@ pub fn line_in(b: &mut [u8], line: &[u8], store: &mut [u8]) -> LineReply
     ensures store { λ r. ⌜ now (store .exit) ≡ storeAfter (lineAnswer (now (b .entry)) (now (line .entry)) (length (now (store .entry))) .out) (now (store .entry)) ⌝ }
     ensures session { λ r. ⌜ now (b .exit) ≡ lineBytes (now (b .entry)) (now (line .entry)) (length (now (store .entry))) ⌝ }
 {
-    let table = classes();
-    if !sound(b, &table) {
+    if !sound(b) {
         return turned(Refusal::NotASession);
     }
+    let table = classes();
     line_on(b, line, store, &table)
-}
-
-// Whether there is no place for a word among these aliases.
-fn full(added: &[u8], w: &[u8]) -> bool
-    ensures { λ r. ⌜ r ≡ isFull (rowsOf (now (added .entry))) (now (w .entry)) ⌝ }
-{
-    match find(added, w) {
-        Named::Command(_) => false,
-        Named::Unknown => ALIASES <= count(added),
-    }
-}
-
-// Adds an alias for which there is a place.
-fn add_in(b: &mut [u8], w: &[u8], command: u8)
-    requires { ⌜ soundOf (now b) ≡ true ⌝ }
-    requires { ⌜ isAlias (now w) ≡ true ⌝ }
-    requires { ⌜ command ≤ lastCommand ⌝ }
-    requires { ⌜ isFull (rowsOf (areaOf (now b))) (now w) ≡ false ⌝ }
-    ensures { λ r. ⌜ now (b .exit) ≡ aliasing (insert (now (w .entry)) command (rowsOf (areaOf (now (b .entry))))) (now (b .entry)) ⌝ }
-{
-    let mut new = [0u8; AREA_BYTES];
-    let n = put_with(area(b), w, command, &mut new);
-    put_two(b, AREA_COUNT, n);
-    put_bytes(b, AREA, part(&new, 0, n));
 }
 
 // Adds an alias, or replaces it.
@@ -145,20 +109,19 @@ pub fn alias_in(b: &mut [u8], w: &[u8], command: u64) -> u64
     ensures answer { λ r. ⌜ r ≡ aliasNo (now (b .entry)) (now (w .entry)) command ⌝ }
     ensures session { λ r. ⌜ now (b .exit) ≡ aliasBytes (now (b .entry)) (now (w .entry)) command ⌝ }
 {
-    let table = classes();
-    if !sound(b, &table) {
+    if !sound(b) {
         return number(Refusal::NotASession);
     }
-    if !is_alias(w, &table) {
+    let table = classes();
+    if !is_name(w, &table) {
         return number(Refusal::BadAlias);
     }
     if (LAST_COMMAND as u64) < command {
         return number(Refusal::BadCommand);
     }
-    if full(area(b), w) {
+    if !insert(b, ADDED, ALIASES, w, command as u8) {
         return number(Refusal::AliasesFull);
     }
-    add_in(b, w, command as u8);
     0
 }
 
@@ -168,8 +131,7 @@ pub fn remembered_in(b: &[u8], store: &mut [u8]) -> CountReply
     ensures count { λ r. ⌜ r .count ≡ readBackCount (now (b .entry)) (length (now (store .entry))) ⌝ }
     ensures store { λ r. ⌜ now (store .exit) ≡ readBackStore (now (b .entry)) (now (store .entry)) ⌝ }
 {
-    let table = classes();
-    if !sound(b, &table) {
+    if !sound(b) {
         return CountReply {
             refusal: number(Refusal::NotASession),
             count: 0,

@@ -1,5 +1,3 @@
-// A session: its added aliases and the line that it remembers. It rests in bytes, whose layout is in docs/SESSION-BYTES.md.
-pub mod bytes;
-pub mod layout;
+// The calls on a session: its line and its added aliases, which rest in bytes (crate layout).
 pub mod lent;
 pub mod value;

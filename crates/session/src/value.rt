@@ -1,16 +1,16 @@
 // A session by value. It holds the bytes in which it rests over C, and lends them.
-use super::layout::SESSION;
 use super::lent::CountReply;
 use super::lent::alias_in;
 use super::lent::fresh_in;
 use super::lent::line_in;
 use super::lent::remembered_in;
+use layout::places::SESSION;
 use run::reply::LineReply;
 ghost use mathlib.Core.Path.{_≡_};
 ghost use lib.ListN.{length, replicate};
 ghost use Rattle.commands.specs.Line.{storeAfter};
 ghost use Rattle.run.specs.Reply.{reply};
-ghost use Rattle.session.specs.Layout.{sessionSize, fresh as freshOne, written};
+ghost use Rattle.layout.specs.Layout.{sessionSize, fresh as freshOne, written};
 ghost use Rattle.session.specs.Lent.{lineAnswer, lineBytes, aliasNo, aliasBytes, readBackNo, readBackCount, readBackStore};
 
 pub struct Session {

@@ -1,20 +1,47 @@
 -- What is said of the spellings as a whole: there are 68, each once and in byte order; they are the shipped words, and each leads to the
 -- command that stands beside it.
 -- Assumes nothing.
-use mathlib.Core.Path.{_≡_, refl, _∙_, ap}
-use mathlib.Core.Bool.{Bool, true, false, cond, _&&_}
+use mathlib.Core.Path.{_≡_, refl, sym, _∙_, ap}
+use mathlib.Core.Bool.{Bool, true, false, cond, _&&_, false≢true}
 use mathlib.Core.List.{List, [], _∷_}
 use Prim.Native.Nat.{ℕ, suc}
-use lib.Dec.{eqb}
+use native.Mathlib.Omega.{arith}
+use lib.Dec.{eqb, ltb}
 use lib.ListN.{length}
-use borrow.Author.Tests.{eq-eqb, ne-eqb}
+use borrow.Author.Tests.{eq-eqb, ne-eqb, le-ltb}
 use Rattle.words.specs.Words.{Row, aliases, names, shipped, same, lookupIn, lookup}
+use Rattle.words.specs.Order.{isBefore}
+use Rattle.words.specs.LookupLaws.{same-eq, lookup-here, lookup-past}
 use Rattle.words.specs.declared.words.Named.{Named}
-use Rattle.aliases.specs.Add.{insert}
-use Rattle.aliases.specs.Order.{orderOf}
-use Rattle.aliases.specs.Good.{isLess}
-use Rattle.aliases.specs.TableLaws.{lookup-insert}
-use Rattle.spellings.specs.Spellings.{inOrder, wordOf}
+use Rattle.spellings.specs.Rows.{row}
+use Rattle.spellings.specs.Spellings.{insertBefore, inOrder, wordOf}
+
+-- no word comes before itself
+before-self : (w : List ℕ) → isBefore w w ≡ false
+unfolding isBefore
+before-self [] = refl
+before-self (x ∷ w) = let e : ltb x x ≡ false = le-ltb x x (omega arith) in rw (e, eq-eqb x x refl) (before-self w)
+
+-- what a word leads to once another is inserted
+lookup-insert : (w v : List ℕ) (c : ℕ) (rs : List Row) → lookupIn (insertBefore w c rs) v ≡ cond (same v w) (Named.Command c) (lookupIn rs v)
+unfolding insertBefore lookupIn
+lookup-insert w v c [] = go (same v w) refl
+  where
+    go : (b : Bool) → same v w ≡ b → lookupIn (row w c ∷ []) v ≡ cond b (Named.Command c) Named.Unknown
+    go true e = lookup-here (row w c) [] v e
+    go false e = lookup-past (row w c) [] v e
+lookup-insert w v c (r ∷ rs) = go (isBefore (r .word) w) (same w (r .word)) (same v w) (same v (r .word)) refl refl refl refl (lookup-insert w v c rs)
+  where
+    go : (b s p q : Bool) → isBefore (r .word) w ≡ b → same w (r .word) ≡ s → same v w ≡ p → same v (r .word) ≡ q →
+        lookupIn (insertBefore w c rs) v ≡ cond (same v w) (Named.Command c) (lookupIn rs v) →
+        lookupIn (cond b (r ∷ insertBefore w c rs) (row w c ∷ cond s rs (r ∷ rs))) v ≡ cond p (Named.Command c) (lookupIn (r ∷ rs) v)
+    go true s true true e f g h ih = absurd (false≢true (sym (before-self w) ∙ ap (λ u. isBefore u w) (sym (same-eq v w g) ∙ same-eq v (r .word) h) ∙ e))
+    go true s false true e f g h ih = lookup-here r (insertBefore w c rs) v h ∙ sym (lookup-here r rs v h)
+    go true s true false e f g h ih = lookup-past r (insertBefore w c rs) v h ∙ ih ∙ rw g
+    go true s false false e f g h ih = lookup-past r (insertBefore w c rs) v h ∙ ih ∙ rw g (sym (lookup-past r rs v h))
+    go false s true q e f g h ih = lookup-here (row w c) (cond s rs (r ∷ rs)) v g
+    go false true false q e f g h ih = lookup-past (row w c) rs v g ∙ sym (lookup-past r rs v (ap (same v) (sym (same-eq w (r .word) f)) ∙ g))
+    go false false false q e f g h ih = lookup-past (row w c) (r ∷ rs) v g
 
 -- rows in order have the same words, and lead them to the same commands
 pub in-order-lookup : (rs : List Row) (w : List ℕ) → lookupIn (inOrder rs) w ≡ lookupIn rs w
@@ -44,14 +71,14 @@ word-past r rs n e = rw (ne-eqb (r .command) n e, wordOf)
 abbrev pub ascending : List Row → Bool
 ascending [] = true
 ascending (r ∷ []) = true
-ascending (r ∷ s ∷ rs) = isLess (orderOf (r .word) (s .word)) && ascending (s ∷ rs)
+ascending (r ∷ s ∷ rs) = isBefore (r .word) (s .word) && ascending (s ∷ rs)
 
 pub spellings-68 : length (inOrder shipped) ≡ 68
-unfolding inOrder insert orderOf shipped aliases names
+unfolding inOrder insertBefore isBefore same shipped aliases names
 spellings-68 = refl
 
 pub spellings-ascend : ascending (inOrder shipped) ≡ true
-unfolding inOrder insert orderOf isLess shipped aliases names
+unfolding inOrder insertBefore isBefore same shipped aliases names
 spellings-ascend = refl
 
 abbrev leads : Named → ℕ → Bool
@@ -63,7 +90,7 @@ allLead [] = true
 allLead (r ∷ rs) = leads (lookup (r .word)) (r .command) && allLead rs
 
 pub spellings-lead : allLead (inOrder shipped) ≡ true
-unfolding inOrder insert orderOf shipped aliases names lookup lookupIn same
+unfolding inOrder insertBefore isBefore shipped aliases names lookup lookupIn same
 spellings-lead = refl
 
 -- each of the 28 commands has its name

@@ -1,5 +1,4 @@
-// The shipped spellings and the names of the commands as rows of bytes, in the form of added aliases: for each its word's length, its
-// command and its word.
+// The shipped spellings and the names of the commands as rows of bytes: for each its word's length, its command and its word.
 use scan::part::byte_at;
 use scan::part::part;
 ghost use mathlib.Core.Path.{_≡_};
@@ -8,9 +7,7 @@ ghost use Prim.Native.Nat.{_<_};
 ghost use lib.ListN.{length};
 ghost use Rattle.scan.specs.Scan.{partOf};
 ghost use Rattle.words.specs.Words.{shipped, names as namesOf};
-ghost use Rattle.aliases.specs.Add.{row};
-ghost use Rattle.aliases.specs.Rows.{rowsOf};
-ghost use Rattle.aliases.specs.RowsLaws.{rowsAt};
+ghost use Rattle.spellings.specs.Rows.{row, rowsOf, rowsAt};
 ghost use Rattle.spellings.specs.Spellings.{inOrder, wordOf};
 
 const SPELLINGS: [u8; 457] =

@@ -1,7 +1,7 @@
 -- Laws of lookup by numbers: it finds what lookup by bytes finds.
 -- Assumes nothing.
 use mathlib.Core.Path.{_≡_, refl, _∙_, sym, ap}
-use mathlib.Core.Bool.{Bool, true, false, _&&_, false≢true}
+use mathlib.Core.Bool.{Bool, true, false, _&&_}
 use mathlib.Core.List.{List, [], _∷_, _++_}
 use Prim.Native.Nat.{ℕ, zero, suc, _+_, _*_, _^_, _<_, _≤_}
 use native.Mathlib.Nat.{pow-suc, add-mul, mul-assoc, mul-comm, zero-add}
@@ -14,6 +14,7 @@ use borrow.Author.Tests.{eqb-true, eqb-false, eq-eqb, ne-eqb, ltb-true, leb-true
 use Rattle.scan.specs.RunLaws.{and-left, and-right, drop-step}
 use Rattle.scan.specs.Number.{numberAt}
 use Rattle.words.specs.Words.{Row, aliases, names, shipped, same, lookupIn, lookup}
+use Rattle.words.specs.LookupLaws.{same-eq, lookup-here, lookup-past}
 use Rattle.words.specs.Keys.{packFrom, pack, ofLength, keysOf, keyIn, keyed}
 use Rattle.words.specs.declared.words.Named.{Named}
 
@@ -130,22 +131,7 @@ keys-same u v e h k =
       packed (drop 8 u) (drop 8 v) (drop-size 8 u v e) (drop-bytes 8 u h) (drop-bytes 8 v k),
     ) (same-parts 8 u v)
 
--- words of other lengths --------------------------------------------------------------------------------------------------------------
-
-same-length : (u v : List ℕ) → same u v ≡ true → length u ≡ length v
-unfolding same
-same-length [] [] e = refl
-same-length [] (y ∷ v) e = absurd (false≢true e)
-same-length (x ∷ u) [] e = absurd (false≢true e)
-same-length (x ∷ u) (y ∷ v) e = ap suc (same-length u v (and-right (eqb x y) _ e))
-
-look-yes : (r : Row) (rs : List Row) (w : List ℕ) → same w (r .word) ≡ true → lookupIn (r ∷ rs) w ≡ Named.Command (r .command)
-unfolding lookupIn
-look-yes r rs w e = rw (e, lookupIn)
-
-look-no : (r : Row) (rs : List Row) (w : List ℕ) → same w (r .word) ≡ false → lookupIn (r ∷ rs) w ≡ lookupIn rs w
-unfolding lookupIn
-look-no r rs w e = rw (e, lookupIn)
+-- words of one length ------------------------------------------------------------------------------------------------------------------
 
 -- only the words of the same length matter, and each is told by its number
 pub lookup-key : (rs : List Row) (w : List ℕ) → ByteRows rs → Bytes w → lookupIn rs w ≡ keyIn (keysOf (ofLength (length w) rs)) (pack (take 8 w)) (pack (drop 8 w))
@@ -156,10 +142,10 @@ lookup-key (r ∷ rs) w h k = go (eqb (length (r .word)) (length w)) (same w (r 
     go : (t u : Bool) → eqb (length (r .word)) (length w) ≡ t → same w (r .word) ≡ u →
         lookupIn rs w ≡ keyIn (keysOf (ofLength (length w) rs)) (pack (take 8 w)) (pack (drop 8 w)) →
         lookupIn (r ∷ rs) w ≡ keyIn (keysOf (elim t as (λ x. List Row) [ true ↦ r ∷ ofLength (length w) rs | false ↦ ofLength (length w) rs ])) (pack (take 8 w)) (pack (drop 8 w))
-    go true true p q ih = look-yes r rs w q ∙ rw (keys-same w (r .word) (sym (eqb-true _ _ p)) k (h .0), q)
-    go true false p q ih = look-no r rs w q ∙ (ih ∙ rw (keys-same w (r .word) (sym (eqb-true _ _ p)) k (h .0), q))
-    go false true p q ih = absurd (eqb-false (length (r .word)) (length w) p (sym (same-length w (r .word) q)))
-    go false false p q ih = look-no r rs w q ∙ ih
+    go true true p q ih = lookup-here r rs w q ∙ rw (keys-same w (r .word) (sym (eqb-true _ _ p)) k (h .0), q)
+    go true false p q ih = lookup-past r rs w q ∙ (ih ∙ rw (keys-same w (r .word) (sym (eqb-true _ _ p)) k (h .0), q))
+    go false true p q ih = absurd (eqb-false (length (r .word)) (length w) p (sym (ap length (same-eq w (r .word) q))))
+    go false false p q ih = lookup-past r rs w q ∙ ih
 
 shipped-bytes : ByteRows shipped
 unfolding shipped aliases names

@@ -47,7 +47,7 @@ use denote.Triple.Walked.{Stays, stay-none-slice, gave-slice, walkOf, goes-none-
 use denote.Exit.{yes}
 use denote.Signature.{plain}
 use Rattle.commands.specs.Line.{storeAfter}
-use Rattle.session.specs.Layout.{sessionSize, fresh as freshOne, written}
+use Rattle.layout.specs.Layout.{sessionSize, fresh as freshOne, written}
 use Rattle.run.specs.Reply.{reply}
 use Rattle.session.specs.Lent.{lineAnswer, lineBytes}
 use Rattle.run.specs.declared.reply.LineReply.{LineReply}

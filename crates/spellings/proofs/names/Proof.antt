@@ -2,7 +2,7 @@
 -- Assumes nothing.
 use mathlib.Core.Path.{refl}
 use Rattle.words.specs.Words.{names}
-use Rattle.aliases.specs.Rows.{rowsOf, rowsFrom}
+use Rattle.spellings.specs.Rows.{rowsOf, rowsFrom}
 use Rattle.spellings.proofs.names.Statement.{statement}
 use Rattle.spellings.proofs.names.Tie as tie
 

@@ -1,6 +1,6 @@
 -- `spellings::row_at` meets its contract.
 -- Assumes nothing.
-use Rattle.aliases.specs.RowsLaws.{rows-step}
+use Rattle.spellings.specs.RowsLaws.{rows-step}
 use borrow.Author.Needs.{needs}
 use Rattle.spellings.proofs.row_at.Statement.{statement}
 use Rattle.spellings.proofs.row_at.Tie as tie

@@ -2,11 +2,10 @@
 -- Assumes nothing.
 use native.Mathlib.Omega.{arith}
 use Rattle.scan.specs.Scan.{partOf}
-use Rattle.aliases.specs.Add.{row}
 use Rattle.spellings.specs.SpellingsLaws.{word-none, word-here, word-past}
 use Rattle.spellings.specs.Spellings.{wordOf}
-use Rattle.aliases.specs.RowsLaws.{rowsAt, rows-start, rows-end}
-use Rattle.aliases.specs.Rows.{rowsOf}
+use Rattle.spellings.specs.RowsLaws.{rows-start, rows-end}
+use Rattle.spellings.specs.Rows.{row, rowsOf, rowsAt}
 use lib.ListN.{length}
 use Prim.Native.Nat.{_-_}
 use mathlib.Core.Path.{_≡_}

@@ -20,8 +20,8 @@ returns c = rw (sym (c .before .before .before .before .parse-cmd-descr .ensures
 part-requires : tie.Need-part-requires
 part-requires c κs = search needs
 
-lookup-in-requires : tie.Need-lookup-in-requires
-lookup-in-requires c κs = search needs
+find-word-requires : tie.Need-find-word-requires
+find-word-requires c κs = search needs
 
 by-name-requires : tie.Need-by-name-requires
 by-name-requires c κs = search needs
@@ -38,7 +38,7 @@ returns-2 c =
     let at-if1 = c .before .before .before in
     rw (
       c .by-name .ensures,
-      c .before .lookup-in .ensures,
+      c .before .find-word .ensures,
       c .before .before .part .ensures,
       sym (at-if1 .before .before .before .before .parse-cmd-descr .ensures) ∙ at-if1 .before .before .d .given .1,
       ne-eqb _ _ (at-if1 .if1 .left),
@@ -60,7 +60,7 @@ decide-spec =
     enum-known-d
     returns
     part-requires
-    lookup-in-requires
+    find-word-requires
     by-name-requires
     enum-told
     enum-told-2

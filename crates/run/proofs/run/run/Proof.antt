@@ -8,8 +8,7 @@ use lib.ListN.{length}
 use Rattle.scan.specs.Bytes.{isText}
 use Rattle.scan.specs.Scan.{runAt}
 use Rattle.ranges.specs.Bounds.{In}
-use Rattle.words.specs.Words.{tableWith}
-use Rattle.aliases.specs.Rows.{rowsOf}
+use Rattle.layout.specs.Layout.{sessionOf, tableOf}
 use Rattle.commands.specs.Run.{decide as decideOf, change}
 use Rattle.run.specs.ReplyLaws.{ended, refused-ended}
 use Rattle.run.specs.Held.{Held, held-start, held-next, held-empty, held-refused, held-unknown, held-runs, held-less, held-again}
@@ -18,10 +17,10 @@ use Rattle.run.proofs.run.run.Statement.{statement}
 use Rattle.run.proofs.run.run.Tie as tie
 
 abbrev Inv-loop : tie.InvT-loop
-Inv-loop line added store₀ classes x₀ n₀ from₀ to₀ stop₀ store x n from to stop = (store ≡ store₀) × Held (tableWith (rowsOf added)) line x n from to stop
+Inv-loop line session store₀ classes x₀ n₀ from₀ to₀ stop₀ store x n from to stop = (store ≡ store₀) × Held (tableOf (sessionOf session)) line x n from to stop
 
 abbrev μ-loop : tie.MeasureT-loop
-μ-loop line added store₀ classes x₀ n₀ from₀ to₀ stop₀ store x n from to stop = to - from
+μ-loop line session store₀ classes x₀ n₀ from₀ to₀ stop₀ store x n from to stop = to - from
 
 fresh-requires : tie.Need-fresh-requires Inv-loop μ-loop
 fresh-requires c κs = search needs
@@ -227,7 +226,7 @@ again : (c : tie.After-changed Inv-loop μ-loop) →
     let at-loop = at-ch .before .before .before .before in
     let at-fresh = at-loop .before .before .before .before in
     let entry = at-fresh .before .before .before .before in
-    Held (tableWith (rowsOf (entry .args .added .now))) (entry .args .line .now) (change (at-ch .ch .given .0 .0) (at-loop .loop .x)) (at-loop .loop .n + 1)
+    Held (tableOf (sessionOf (entry .args .session .now))) (entry .args .line .now) (change (at-ch .ch .given .0 .0) (at-loop .loop .x)) (at-loop .loop .n + 1)
     (at-loop .loop .from + at-ch .ch .given .0 .1 .0) (at-loop .loop .from + at-ch .ch .given .0 .1 .1 .0)
     (at-ch .ch .given .0 .1 .1 .0 - at-ch .ch .given .0 .1 .0)
 again c =

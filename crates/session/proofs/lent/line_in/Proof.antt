@@ -10,9 +10,6 @@ use borrow.Author.Needs.{needs}
 use Rattle.session.proofs.lent.line_in.Statement.{statement}
 use Rattle.session.proofs.lent.line_in.Tie as tie
 
-classes-requires : tie.Need-classes-requires
-classes-requires c κs = search needs
-
 sound-requires : tie.Need-sound-requires
 sound-requires c κs = search needs
 
@@ -25,16 +22,19 @@ same-length c = search needs
 returns : tie.Need-returns
 returns c =
     let told = c .before .before in
-    let start = told .before .before .before in
-    let entry = start .before .before .before .before in
+    let entry = told .before .before .before .before .before in
     let a = entry .args in
     let x = line-99 (a .b .now) (a .line .now) (length (a .store .now)) (sym (told .sound .ensures) ∙ not-true _ (c .before .if1 .taken)) in
     (c .turned .ensures ∙ ap reply (sym (x .0)), (nothing-written _ _ ∙ ap (λ v. storeAfter (v .out) (a .store .now)) (sym (x .0)), sym (x .1)))
 
+classes-requires : tie.Need-classes-requires
+classes-requires c κs = search needs
+
 line-on-requires : tie.Need-line-on-requires
 line-on-requires c κs =
-    let test = c .before .before .before in
-    (search needs, sym (test .before .sound .ensures) ∙ not-false _ (test .if1 .left))
+    let made = c .before .before .before in
+    let test = made .before in
+    (made .classes .ensures, sym (test .before .sound .ensures) ∙ not-false _ (test .if1 .left))
 
 same-length-2 : tie.Need-same-length-2
 same-length-2 c = search needs
@@ -45,10 +45,9 @@ same-length-3 c = search needs
 returns-2 : tie.Need-returns-2
 returns-2 c =
     let ran = c .before .before .before .before in
-    let test = ran .before .before .before .before in
+    let test = ran .before .before .before .before .before in
     let told = test .before in
-    let start = told .before .before .before in
-    let entry = start .before .before .before .before in
+    let entry = told .before .before .before .before .before in
     let a = entry .args in
     let x = line-on (a .b .now) (a .line .now) (length (a .store .now)) (sym (told .sound .ensures) ∙ not-false _ (test .if1 .left)) in
     let e = ran .line-on .ensures in
@@ -58,11 +57,11 @@ pub line-in-spec : {M : Type 1} → statement M
 line-in-spec =
     tie.close
     (tie.spec
-    classes-requires
     sound-requires
     turned-requires
     same-length
     returns
+    classes-requires
     line-on-requires
     same-length-2
     same-length-3

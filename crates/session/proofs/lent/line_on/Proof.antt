@@ -6,7 +6,7 @@ use Rattle.reading.specs.Alone.{lineRoom}
 use Rattle.reading.specs.Checks.{checkFor-passed}
 use Rattle.commands.specs.Line.{storeAfter}
 use Rattle.run.specs.Reply.{reply}
-use Rattle.session.specs.SoundLaws.{sound-told}
+use Rattle.layout.specs.SoundLaws.{sound-told}
 use Rattle.session.specs.LentLaws.{nothing-written, on-bad, on-good}
 use borrow.Author.Needs.{needs}
 use Rattle.session.proofs.lent.line_on.Statement.{statement}

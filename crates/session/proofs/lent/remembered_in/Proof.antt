@@ -4,15 +4,12 @@ use mathlib.Core.Path.{_≡_, sym, _∙_}
 use native.Mathlib.Omega.{arith}
 use lib.ListN.{length}
 use borrow.Author.Tests.{le-leb, lt-leb, not-true, not-false}
-use Rattle.session.specs.Layout.{lineOf}
+use Rattle.layout.specs.Layout.{sessionOf}
 use Rattle.session.specs.LentLaws.{read-back-99, read-back-short, read-back-good}
 use Rattle.run.specs.ReplyLaws.{front}
 use borrow.Author.Needs.{needs}
 use Rattle.session.proofs.lent.remembered_in.Statement.{statement}
 use Rattle.session.proofs.lent.remembered_in.Tie as tie
-
-classes-requires : tie.Need-classes-requires
-classes-requires c κs = search needs
 
 sound-requires : tie.Need-sound-requires
 sound-requires c κs = search needs
@@ -23,12 +20,11 @@ number-requires c κs = search needs
 returns : tie.Need-returns
 returns c =
     let told = c .before .before in
-    let start = told .before .before in
-    let a = start .before .before .before .args in
+    let a = told .before .before .before .args in
     rw (c .number .ensures) (read-back-99 (a .b .now) (a .store .now) (sym (told .sound .ensures) ∙ not-true _ (c .before .if1 .taken)))
 
 remembered-requires : tie.Need-remembered-requires
-remembered-requires c κs = search needs
+remembered-requires c κs = sym (c .before .sound .ensures) ∙ not-false _ (c .if1 .left)
 
 number-requires-2 : tie.Need-number-requires-2
 number-requires-2 c κs = search needs
@@ -37,13 +33,12 @@ returns-2 : tie.Need-returns-2
 returns-2 c =
     let test = c .before .before .before in
     let told = test .before in
-    let start = told .before .before in
-    let a = start .before .before .before .args in
+    let a = told .before .before .before .args in
     let taken = sym (told .sound .ensures) ∙ not-false _ (test .if1 .left) in
     rw (c .number2 .ensures) (read-back-short (a .b .now) (a .store .now) taken (lt-leb _ _ (rw (c .before .before .remembered .ensures) at (c .before .if2 .taken))))
 
 put-bytes-requires : tie.Need-put-bytes-requires
-put-bytes-requires c κs = record { fits = omega (arith, c .before .if2 .left) }
+put-bytes-requires c κs = search needs
 
 same-length : tie.Need-same-length
 same-length c = search needs
@@ -55,11 +50,10 @@ returns-3 c =
     let line = room .before in
     let test = line .before in
     let told = test .before in
-    let start = told .before .before in
-    let a = start .before .before .before .args in
+    let a = told .before .before .before .args in
     let fits = rw (line .remembered .ensures) at (room .if2 .left) in
     let p = rw (line .remembered .ensures) at (put .put-bytes .ensures) in
-    let n : put .put-bytes .result ≡ length (lineOf (a .b .now)) = omega (arith, p .place) in
+    let n : put .put-bytes .result ≡ length (sessionOf (a .b .now) .line) = omega (arith, p .place) in
     let x = read-back-good (a .b .now) (a .store .now) (sym (told .sound .ensures) ∙ not-false _ (test .if1 .left)) (le-leb _ _ fits) in
     (x .0, (n ∙ x .1 .0, front p (omega (arith, p .place, fits)) ∙ x .1 .1))
 
@@ -67,7 +61,6 @@ pub remembered-in-spec : {M : Type 1} → statement M
 remembered-in-spec =
     tie.close
     (tie.spec
-    classes-requires
     sound-requires
     number-requires
     returns

@@ -1,0 +1,5 @@
+pub mod BoolLaws
+pub mod Field
+pub mod SetsLaws
+pub mod FieldLaws
+pub mod BasicLaws

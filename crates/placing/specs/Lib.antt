@@ -1,0 +1,10 @@
+pub mod Change
+pub mod AfterLaws
+pub mod KeepLaws
+pub mod WriteLaws
+pub mod ChangeLaws
+pub mod StoredLaws
+pub mod PlaceLaws
+pub mod Insert
+pub mod InsertLaws
+pub mod RemoveLaws

@@ -1,0 +1,12 @@
+pub mod Table
+pub mod PartsLaws
+pub mod TableLaws
+pub mod Walk
+pub mod FrameLaws
+pub mod Tail
+pub mod TailLaws
+pub mod OrderLaws
+pub mod Kinds
+pub mod AllLaws
+pub mod GoodLaws
+pub mod FindLaws
