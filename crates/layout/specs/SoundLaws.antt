@@ -11,20 +11,21 @@ use lib.Dec.{eqb, leb}
 use lib.ListN.{length, set}
 use lib.Seq.{sets}
 use Rattle.scan.specs.Bytes.{isWord}
-use Rattle.scan.specs.Scan.{partOf, runAt}
+use Rattle.scan.specs.Scan.{byteAt, partOf, runAt}
 use borrow.Author.Tests.{eqb-true, leb-true, eq-eqb, ne-eqb, le-leb, lt-leb}
 use Rattle.limits.specs.Limits.{lineLimit, wordLimit, aliasLimit}
 use Rattle.utf8.specs.Utf8.{isUtf8, utf8At, utf8From}
-use Rattle.words.specs.Words.{Row}
+use Rattle.scan.specs.PartLaws.{part-none}
+use Rattle.words.specs.Words.{Row, tableWith}
 use Rattle.fields.specs.BoolLaws.{and-both, and-of}
 use Rattle.fields.specs.Field.{Field, Bytes, Lawful, thenField, both, guarded, formedAs, twoAt, two, twoField, fit, bytesField}
 use Rattle.fields.specs.FieldLaws.{then-lawful, both-lawful, guarded-lawful, formed-lawful, Part, part-self, part-first, part-second, part-formed}
 use Rattle.fields.specs.BasicLaws.{fit-is, two-lawful, bytes-lawful}
 use Rattle.placing.specs.Change.{insert, isFull, hasPlace, inserting}
 use Rattle.tables.specs.Table.{isName, goodRows, goodTable, commandsOf, wordsOf, commandsAt, wordsAt, table}
-use Rattle.tables.specs.FrameLaws.{write-is}
-use Rattle.tables.specs.TableLaws.{table-from, table-to, table-ok, table-lawful, table-good}
-use Rattle.layout.specs.Layout.{lineCount, linePlace, addedPlace, sessionSize, Session, fresh, withLine, withRows, goodLine, wellFormed, lineField, addedField, sessionFrom, heldBy, sessionField, sessionOf, remembering, aliasing, written, sound}
+use Rattle.tables.specs.FrameLaws.{framed-not, rows-unframed, rows-empty, write-is}
+use Rattle.tables.specs.TableLaws.{table-from, table-to, table-ok, table-lawful, table-good, table-count}
+use Rattle.layout.specs.Layout.{lineCount, linePlace, addedPlace, sessionSize, Session, fresh, withLine, withRows, tableOf, goodLine, wellFormed, lineField, addedField, sessionFrom, heldBy, sessionField, sessionOf, remembering, aliasing, written, sound}
 
 -- each field is lawful, and where it lies -------------------------------------------------------------------------------------------------------
 
@@ -135,13 +136,17 @@ module _ (b : List ℕ) where
   sound-is e t = and-of (eq-eqb (length b) sessionSize e) t
 
   -- each of its fields is taken; its aliases are good
-  sound-table : sound b ≡ true → table addedPlace aliasLimit .test b ≡ true
+  pub sound-table : sound b ≡ true → table addedPlace aliasLimit .test b ≡ true
   unfolding addedField
   sound-table h = added-part .taken b (sound-told h .test)
 
   pub sound-rows : sound b ≡ true → goodTable aliasLimit (sessionOf b .rows) ≡ true
   unfolding sessionOf sessionField formedAs thenField addedField
   sound-rows h = table-good addedPlace aliasLimit b (sound-table h)
+
+  pub sound-count : sound b ≡ true → length (sessionOf b .rows) ≡ byteAt b addedPlace
+  unfolding sessionOf sessionField formedAs thenField addedField
+  sound-count h = table-count addedPlace aliasLimit b (sound-table h)
 
   -- where its line is
   line-read : lineField .test b ≡ true → lineField .read b ≡ partOf b linePlace (linePlace + twoAt b lineCount)
@@ -231,11 +236,24 @@ module _ (b : List ℕ) where
       unfolding sound sessionField formedAs thenField lineField guarded twoField bytesField fit addedField
       sound-added k = rw (eq-eqb (length b) sessionSize e, le-leb (twoAt b lineCount) lineLimit h, k)
 
+-- bytes that have no aliases, and no bytes
+pub rows-none : (b : List ℕ) → byteAt b addedPlace ≡ 0 → sessionOf b .rows ≡ []
+unfolding sessionOf sessionField formedAs thenField addedField
+rows-none b h = rows-empty addedPlace aliasLimit b h
+
+pub rows-nowhere : (b : List ℕ) → length b ≡ 0 → sessionOf b .rows ≡ []
+unfolding sessionOf sessionField formedAs thenField addedField
+rows-nowhere b h = rows-unframed addedPlace aliasLimit b (framed-not addedPlace aliasLimit b (λ f. omega (arith, f .size)))
+
+-- so the words are the same
+pub words-none : (b c : List ℕ) → byteAt b addedPlace ≡ 0 → c ≡ partOf b 0 0 → tableOf (sessionOf c) ≡ tableOf (sessionOf b)
+words-none b c h e = ap tableWith (ap (λ v. sessionOf v .rows) e ∙ rows-nowhere (partOf b 0 0) (ap length (part-none b 0 0 (omega arith))) ∙ sym (rows-none b h))
+
 -- an alias put in -------------------------------------------------------------------------------------------------------------------------------
 
 module _ (b w : List ℕ) (h : sound b ≡ true) (n : isName w ≡ true) where
   -- there is a place for it, or 32 are there
-  pub place-is : hasPlace addedPlace aliasLimit w b ≡ not (isFull aliasLimit (sessionOf b .rows) w)
+  place-is : hasPlace addedPlace aliasLimit w b ≡ not (isFull aliasLimit (sessionOf b .rows) w)
   unfolding hasPlace isName sessionOf sessionField formedAs thenField addedField
   place-is =
       let p = and-both (leb 1 (length w) && leb (length w) wordLimit) (eqb (runAt isWord w 0) (length w)) n .0 in
@@ -245,7 +263,3 @@ module _ (b w : List ℕ) (h : sound b ≡ true) (n : isName w ≡ true) where
   pub put-in : (c : ℕ) → isFull aliasLimit (sessionOf b .rows) w ≡ false → inserting addedPlace aliasLimit w c b ≡ aliasing (insert w c (sessionOf b .rows)) b
   unfolding inserting aliasing sessionOf sessionField formedAs thenField addedField
   put-in c f = rw (place-is ∙ ap not f)
-
-  pub put-none : (c : ℕ) → isFull aliasLimit (sessionOf b .rows) w ≡ true → inserting addedPlace aliasLimit w c b ≡ b
-  unfolding inserting
-  put-none c f = rw (place-is ∙ ap not f)

@@ -2,7 +2,7 @@
 -- there is no place for it.
 -- Assumes nothing.
 use mathlib.Core.Path.{_≡_, refl, sym, _∙_, ap}
-use mathlib.Core.Bool.{Bool, true, false, cond, not, _&&_}
+use mathlib.Core.Bool.{Bool, true, false, cond, not, _&&_, and-false}
 use mathlib.Core.List.{List, [], _∷_, _++_, append-nil}
 use Prim.Native.Nat.{ℕ, zero, suc, _+_, _-_, _*_, _<_, _≤_}
 use native.Mathlib.Nat.{mul-le-mul-right}
@@ -321,10 +321,14 @@ module _ (at most : ℕ) (w : List ℕ) (c : ℕ) (b : List ℕ) where
   pub first-done : (t : List ℕ) → byteAt b at ≡ 0 → (most ≡ 0 → ⊥) → t ≡ withFirst at most w c b → Answered at most w c b true t
   first-done t z n e = (sym (ap not (first-full at most b w c z ∙ lt-leb most 0 (omega arith))), e ∙ sym (first-written at most b w c z))
 
-  -- no word, too long a word, no table
+  -- no table, no word, too long a word
   refused : hasPlace at most w b ≡ false → (false ≡ hasPlace at most w b) × (b ≡ inserting at most w c b)
   unfolding inserting
   refused h = (sym h, rw h)
+
+  pub untaken-refused : table at most .test b ≡ false → (false ≡ hasPlace at most w b) × (b ≡ inserting at most w c b)
+  unfolding hasPlace
+  untaken-refused h = refused (rw (h, and-false (leb 1 (length w) && leb (length w) wordLimit)))
 
   pub none-refused : length w ≡ 0 → (false ≡ hasPlace at most w b) × (b ≡ inserting at most w c b)
   unfolding hasPlace
@@ -338,9 +342,6 @@ module _ (at most : ℕ) (w : List ℕ) (c : ℕ) (b : List ℕ) where
     tested-at : (q : Bool) → table at most .test b ≡ q → hasPlace at most w b ≡ (q && not (isFull most (table at most .read b) w))
     unfolding hasPlace
     tested-at q h = rw (le-leb 1 (length w) (omega arith), le-leb (length w) wordLimit short, h)
-
-    pub untaken-refused : table at most .test b ≡ false → (false ≡ hasPlace at most w b) × (b ≡ inserting at most w c b)
-    untaken-refused h = refused (tested-at false h)
 
     pub answered : table at most .test b ≡ true → (r : Bool) (t : List ℕ) → Answered at most w c b r t → (r ≡ hasPlace at most w b) × (t ≡ inserting at most w c b)
     unfolding inserting

@@ -204,9 +204,10 @@ fn insert_among(b: &mut [u8], at: usize, most: usize, w: &[u8], command: u8) -> 
 }
 
 // Puts a word into the table at `at` with room for `most` words, if there is a place for it, and answers whether there was.
-pub fn insert(b: &mut [u8], at: usize, most: usize, w: &[u8], command: u8) -> bool
+pub fn put(b: &mut [u8], at: usize, most: usize, w: &[u8], command: u8) -> bool
     requires { ⌜ tableEnd at most < 2 ^ 64 ⌝ }
     requires { ⌜ most ≤ 255 ⌝ }
+    requires { ⌜ table at most .test (now b) ≡ true ⌝ }
     ensures answer { λ r. ⌜ r ≡ hasPlace at most (now (w .entry)) (now (b .entry)) ⌝ }
     ensures bytes { λ r. ⌜ now (b .exit) ≡ inserting at most (now (w .entry)) command (now (b .entry)) ⌝ }
 {
@@ -217,9 +218,6 @@ pub fn insert(b: &mut [u8], at: usize, most: usize, w: &[u8], command: u8) -> bo
     if WORD < m {
         return false;
     }
-    if !good(b, at, most) {
-        return false;
-    }
     if b[at] != 0 {
         return insert_among(b, at, most, w, command);
     }
@@ -228,4 +226,17 @@ pub fn insert(b: &mut [u8], at: usize, most: usize, w: &[u8], command: u8) -> bo
     }
     put_first(b, at, most, w, command);
     true
+}
+
+// The same on any bytes: those that are no table stay as they are.
+pub fn insert(b: &mut [u8], at: usize, most: usize, w: &[u8], command: u8) -> bool
+    requires { ⌜ tableEnd at most < 2 ^ 64 ⌝ }
+    requires { ⌜ most ≤ 255 ⌝ }
+    ensures answer { λ r. ⌜ r ≡ hasPlace at most (now (w .entry)) (now (b .entry)) ⌝ }
+    ensures bytes { λ r. ⌜ now (b .exit) ≡ inserting at most (now (w .entry)) command (now (b .entry)) ⌝ }
+{
+    if !good(b, at, most) {
+        return false;
+    }
+    put(b, at, most, w, command)
 }

@@ -3,29 +3,34 @@ use layout::bytes::clear;
 use layout::bytes::remember;
 use layout::bytes::remembered;
 use layout::bytes::sound;
+use layout::lookup::words_of;
 use layout::places::ADDED;
 use layout::places::SESSION;
 use limits::ALIASES;
 use limits::LAST_COMMAND;
 use limits::refusal::Refusal;
 use limits::refusal::number;
-use placing::insert::insert;
+use placing::insert::put;
 use reading::alone::Checked;
 use reading::alone::check_line;
 use run::reply::LineReply;
 use run::run::run;
 use scan::classes::classes;
+use scan::part::byte_at;
 use store::put_bytes;
+use tables::find::find;
 use tables::name::is_name;
+use words::words::Named;
 ghost use mathlib.Core.Path.{_≡_};
 ghost use mathlib.Core.Bool.{true};
 ghost use Prim.Native.Nat.{_≤_};
 ghost use lib.ListN.{length};
-ghost use Rattle.limits.specs.Limits.{lineLimit};
+ghost use Rattle.limits.specs.Limits.{lineLimit, aliasLimit};
 ghost use Rattle.limits.specs.Refusals.{refusalNo};
 ghost use Rattle.scan.specs.Bytes.{Classes};
 ghost use Rattle.reading.specs.Alone.{lineRoom};
 ghost use Rattle.context.specs.Context.{fresh as freshContext};
+ghost use Rattle.placing.specs.Change.{isFull};
 ghost use Rattle.commands.specs.Run.{lineFrom};
 ghost use Rattle.commands.specs.Line.{turned as turnedOf, storeAfter};
 ghost use Rattle.run.specs.Reply.{reply};
@@ -61,7 +66,7 @@ fn run_in(b: &mut [u8], line: &[u8], store: &mut [u8], classes: &[u8; 256]) -> L
     ensures store { λ r. ⌜ now (store .exit) ≡ storeAfter (lineFrom (tableOf (sessionOf (now (b .entry)))) freshContext (now (line .entry)) .out) (now (store .entry)) ⌝ }
     ensures session { λ r. ⌜ now (b .exit) ≡ remembering (now (line .entry)) (now (b .entry)) ⌝ }
 {
-    let reply = run(line, b, store, classes);
+    let reply = run(line, words_of(b), store, classes);
     remember(b, line);
     reply
 }
@@ -104,6 +109,17 @@ pub fn line_in(b: &mut [u8], line: &[u8], store: &mut [u8]) -> LineReply
     line_on(b, line, store, &table)
 }
 
+// Whether a session has no place for a word: it is a new one, and 32 are there.
+fn full(b: &[u8], w: &[u8]) -> bool
+    requires { ⌜ soundOf (now b) ≡ true ⌝ }
+    ensures { λ r. ⌜ r ≡ isFull aliasLimit (sessionOf (now (b .entry)) .rows) (now (w .entry)) ⌝ }
+{
+    match find(b, ADDED, ALIASES, w) {
+        Named::Command(_) => false,
+        Named::Unknown => ALIASES <= byte_at(b, ADDED) as usize,
+    }
+}
+
 // Adds an alias, or replaces it.
 pub fn alias_in(b: &mut [u8], w: &[u8], command: u64) -> u64
     ensures answer { λ r. ⌜ r ≡ aliasNo (now (b .entry)) (now (w .entry)) command ⌝ }
@@ -119,9 +135,10 @@ pub fn alias_in(b: &mut [u8], w: &[u8], command: u64) -> u64
     if (LAST_COMMAND as u64) < command {
         return number(Refusal::BadCommand);
     }
-    if !insert(b, ADDED, ALIASES, w, command as u8) {
+    if full(b, w) {
         return number(Refusal::AliasesFull);
     }
+    put(b, ADDED, ALIASES, w, command as u8);
     0
 }
 

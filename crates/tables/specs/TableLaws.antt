@@ -16,7 +16,7 @@ use borrow.Author.Tests.{eqb-true, leb-true, ltb-true, eq-eqb, ne-eqb, le-leb}
 use Rattle.limits.specs.Limits.{wordLimit, lastCommand}
 use Rattle.scan.specs.Bytes.{isWord}
 use Rattle.scan.specs.Number.{numberOf}
-use Rattle.scan.specs.Scan.{runAt}
+use Rattle.scan.specs.Scan.{byteAt, runAt}
 use Rattle.tables.specs.Table.{isAfter, isName, goodRow, goodRows, goodTable, lengthsOf, commandsOf, wordsOf, countsFrom, lengthsFrom, sum, cut, Parts, partsOf, rowsIn, counted, commandsAt, wordsAt, tableEnd, partsField, framed, table}
 use Rattle.tables.specs.PartsLaws.{empty, cut-length, cut-lengths, cut-commands, cut-words, cut-again, lengths-length, commands-length, words-length, from-length, counts-again, ascends, asc-of, lengths-again, counts-length, sum-most}
 
@@ -224,6 +224,10 @@ module _ (at most : ℕ) where
   unfolding table only formedAs
   table-ok rs = refl
 
+  first-byte : (b : List ℕ) → partsField at most .read b .0 ≡ byteAt b at
+  unfolding partsField thenField byteField
+  first-byte b = refl
+
   -- what is taken is framed, and its rows are good
   pub table-framed : (b : List ℕ) → table at most .test b ≡ true → framed at most b ≡ true
   unfolding table only
@@ -236,6 +240,14 @@ module _ (at most : ℕ) where
       let p = and-both (framed at most b) (partsField at most .test b && rule x) h in
       let q = and-both (counted most x) (goodRows [] (rowsIn x)) (and-both (partsField at most .test b) (rule x) (p .1) .1) in
       rw (p .0) (and-of (q .1) (ap (λ (n : ℕ). leb n most) (parts-count x (q .0)) ∙ parts-few x (q .0)))
+
+  -- as many as the first byte says
+  pub table-count : (b : List ℕ) → table at most .test b ≡ true → length (table at most .read b) ≡ byteAt b at
+  unfolding table only formedAs guarded
+  table-count b h =
+      let x = partsField at most .read b in
+      let p = and-both (framed at most b) (partsField at most .test b && rule x) h in
+      rw (p .0) (parts-count x (and-both (counted most x) (goodRows [] (rowsIn x)) (and-both (partsField at most .test b) (rule x) (p .1) .1) .0) ∙ first-byte b)
 
   pub table-rows : (b : List ℕ) → table at most .test b ≡ true → goodRows [] (table at most .read b) ≡ true
   unfolding goodTable

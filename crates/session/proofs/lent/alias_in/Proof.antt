@@ -1,8 +1,9 @@
 -- `lent::alias_in` meets its contract.
 -- Assumes nothing.
 use mathlib.Core.Path.{sym, _∙_}
+use native.Mathlib.Omega.{arith}
 use borrow.Author.Tests.{le-leb, lt-leb, not-true, not-false}
-use Rattle.layout.specs.SoundLaws.{place-is, put-in, put-none}
+use Rattle.layout.specs.SoundLaws.{sound-table, put-in}
 use Rattle.session.specs.LentLaws.{alias-99, alias-word, alias-command, alias-full, alias-added}
 use borrow.Author.Needs.{needs}
 use Rattle.session.proofs.lent.alias_in.Statement.{statement}
@@ -67,11 +68,10 @@ returns-3 c =
     let x = alias-command (a .b .now) (a .w .now) (a .command) taken good (lt-leb _ _ (c .before .if3 .taken)) in
     (c .number3 .ensures ∙ sym (x .0), sym (x .1))
 
-cast-insert : tie.Need-cast-insert
-cast-insert c = search needs
-
-insert-requires : tie.Need-insert-requires
-insert-requires c κs = search needs
+full-requires : tie.Need-full-requires
+full-requires c κs =
+    let test = c .before .before .before .before .before .before in
+    sym (test .before .sound .ensures) ∙ not-false _ (test .if1 .left)
 
 number-requires-4 : tie.Need-number-requires-4
 number-requires-4 c κs = search needs
@@ -81,40 +81,47 @@ same-length-4 c = search needs
 
 returns-4 : tie.Need-returns-4
 returns-4 c =
-    let put = c .before .before .before .before in
-    let command = put .before .before in
+    let place = c .before .before in
+    let command = place .before .before in
     let word = command .before in
     let named = word .before in
     let test = named .before .before .before in
     let told = test .before in
     let a = told .before .before .before .before .args in
-    let b = a .b .now in
-    let w = a .w .now in
     let taken = sym (told .sound .ensures) ∙ not-false _ (test .if1 .left) in
     let good = sym (named .is-name .ensures) ∙ not-false _ (word .if2 .left) in
-    let full = not-false _ (sym (place-is b w taken good) ∙ sym (put .insert .ensures .0) ∙ not-true _ (c .before .if4 .taken)) in
-    let x = alias-full b w (a .command) taken good (le-leb _ _ (command .if3 .left)) full in
-    (c .number4 .ensures ∙ sym (x .0), put .insert .ensures .1 ∙ put-none b w taken good (a .command) full ∙ sym (x .1))
+    let x = alias-full (a .b .now) (a .w .now) (a .command) taken good (le-leb _ _ (command .if3 .left)) (sym (place .full .ensures) ∙ c .before .if4 .taken) in
+    (c .number4 .ensures ∙ sym (x .0), sym (x .1))
+
+cast-put : tie.Need-cast-put
+cast-put c = search needs
+
+put-requires : tie.Need-put-requires
+put-requires c κs =
+    let place = c .before .before in
+    let test = place .before .before .before .before .before .before .before in
+    let told = test .before in
+    let a = told .before .before .before .before .args in
+    (omega arith, (omega arith, sound-table (a .b .now) (sym (told .sound .ensures) ∙ not-false _ (test .if1 .left))))
 
 same-length-5 : tie.Need-same-length-5
 same-length-5 c = search needs
 
 returns-5 : tie.Need-returns-5
 returns-5 c =
-    let put = c .before .before .before in
-    let command = put .before .before in
+    let put = c .before .before in
+    let place = put .before .before .before in
+    let command = place .before .before in
     let word = command .before in
     let named = word .before in
     let test = named .before .before .before in
     let told = test .before in
     let a = told .before .before .before .before .args in
-    let b = a .b .now in
-    let w = a .w .now in
     let taken = sym (told .sound .ensures) ∙ not-false _ (test .if1 .left) in
     let good = sym (named .is-name .ensures) ∙ not-false _ (word .if2 .left) in
-    let room = not-true _ (sym (place-is b w taken good) ∙ sym (put .insert .ensures .0) ∙ not-false _ (c .if4 .left)) in
-    let x = alias-added b w (a .command) taken good (le-leb _ _ (command .if3 .left)) room in
-    (sym (x .0), put .insert .ensures .1 ∙ put-in b w taken good (a .command) room ∙ sym (x .1))
+    let room = sym (place .full .ensures) ∙ put .before .before .if4 .left in
+    let x = alias-added (a .b .now) (a .w .now) (a .command) taken good (le-leb _ _ (command .if3 .left)) room in
+    (sym (x .0), put .put .ensures .1 ∙ put-in (a .b .now) (a .w .now) taken good (a .command) room ∙ sym (x .1))
 
 pub alias-in-spec : {M : Type 1} → statement M
 alias-in-spec =
@@ -133,10 +140,11 @@ alias-in-spec =
     number-requires-3
     same-length-3
     returns-3
-    cast-insert
-    insert-requires
+    full-requires
     number-requires-4
     same-length-4
     returns-4
+    cast-put
+    put-requires
     same-length-5
     returns-5)
