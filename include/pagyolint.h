@@ -48,7 +48,7 @@ enum pagyolint_refusal {
     PAGYOLINT_UNIMPLEMENTED = 11,    /* !, &, read, print and substitute */
     PAGYOLINT_STORE_TOO_SHORT = 12,  /* the store is shorter than the line and 40, or than the remembered line */
     PAGYOLINT_ALIASES_FULL = 13,     /* a new alias when 32 are there */
-    PAGYOLINT_NOT_A_SESSION = 99     /* the bytes are not 1,851, or no session is written as them */
+    PAGYOLINT_NOT_A_SESSION = 99     /* bytes of another length, or that no session is written as */
 };
 
 /* What a line answers: the refusal or 0; the readings begun; and how many bytes it wrote at the front of the store. */

@@ -71,10 +71,8 @@ void try_fresh(struct bytes *session, unsigned where) {
     int good = session->len == PAGYOLINT_SESSION_BYTES;
     met_answer(FRESH, a.refusal);
     must(a.refusal == (good ? PAGYOLINT_ACCEPTED : PAGYOLINT_NOT_A_SESSION), "fresh: the wrong answer");
-    if (good) {
-        memset(want.at, 0, LINE_AT);
-        want.at[ADDED_AT] = 0;
-    }
+    if (good)
+        make_fresh(&want);
     must(same(&want, &a.session), "fresh: the wrong session");
     must(is_sound(&a.session) == good, "fresh: not a session");
     must_repeat(&a, &b);

@@ -88,8 +88,7 @@ static void finish(struct made *m) {
         m->session.at[i] = (uint8_t)draw(256);
     model = m->session;
     must(pagyolint_fresh(m->session.at, m->session.len) == PAGYOLINT_ACCEPTED, "no fresh session");
-    put_two(model.at, 0);
-    model.at[ADDED_AT] = 0;
+    make_fresh(&model);
     for (size_t i = 0; i < m->count; i++) {
         struct bytes word = copy_of(m->rows[i].word, m->rows[i].len);
         must(add_alias(&model, &word, m->rows[i].command) == PAGYOLINT_ACCEPTED, "no alias in the model");

@@ -67,6 +67,11 @@ static void write_session(const struct session *s, struct bytes *over) {
     write_rows(over->at, added_table, &s->added);
 }
 
+void make_fresh(struct bytes *session) {
+    struct session fresh = {.line = session->at};
+    write_session(&fresh, session);
+}
+
 int is_written(const struct bytes *session) {
     struct session s;
     struct bytes over = *session;

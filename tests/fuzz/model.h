@@ -26,6 +26,9 @@ int is_sound(const struct bytes *session);
    as them. */
 int is_written(const struct bytes *session);
 
+/* As many bytes as a session has become a fresh one. */
+void make_fresh(struct bytes *session);
+
 /* The rest is about sound sessions. */
 
 /* The length of the remembered line. */

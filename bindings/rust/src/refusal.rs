@@ -41,7 +41,7 @@ pub enum Refusal {
     StoreTooShort = 12,
     /// 13: a new alias when 32 are there.
     AliasesFull = 13,
-    /// 99: the bytes are not 1,851, or no session is written as them.
+    /// 99: bytes of another length than a session's, or that no session is written as.
     NotASession = 99,
 }
 

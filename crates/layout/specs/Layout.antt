@@ -1,6 +1,6 @@
--- A session: the line that it remembers and its added aliases. In bytes it is fields one behind the other, 1,851 bytes in all: from 0 on the
--- line, behind its length in two bytes; from 1,026 on the aliases, a table by length. Bytes that are not used are free: no rule looks at
--- them, and no call changes them. A further field of a session is appended to these.
+-- A session: the line that it remembers and its added aliases. In bytes it is fields one behind the other: first the line, behind its
+-- length in two bytes, and then the aliases, a table by length. Bytes that are not used are free: no rule looks at them, and no call
+-- changes them. A further field of a session is appended to these.
 -- Assumes nothing.
 use mathlib.Core.Bool.{Bool, _&&_}
 use mathlib.Core.List.{List, []}

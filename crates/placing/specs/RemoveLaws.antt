@@ -3,7 +3,7 @@
 use mathlib.Core.Path.{_≡_, refl, sym, _∙_, ap}
 use mathlib.Core.Bool.{Bool, true, false, cond}
 use mathlib.Core.List.{List, [], _∷_, _++_}
-use Prim.Native.Nat.{ℕ, zero, suc, _+_, _-_, _*_, _<_, _≤_}
+use Prim.Native.Nat.{ℕ, zero, suc, _+_, _-_, _<_, _≤_}
 use native.Mathlib.Omega.{arith}
 use lib.Dec.{eqb}
 use lib.ListN.{length, take, drop, getD, set, length-append, length-drop, length-set}
@@ -16,15 +16,16 @@ use Rattle.words.specs.Words.{Row, same, lookupIn}
 use Rattle.words.specs.declared.words.Named.{Named}
 use Rattle.fields.specs.SetsLaws.{byte-behind, part-behind}
 use Rattle.words.specs.LookupLaws.{lookup-here, lookup-past}
-use Rattle.tables.specs.Table.{lengthsOf, commandsOf, wordsOf, countOf, countsFrom, repeated, lengthsFrom, sum, cut, commandsAt, wordsAt, tableEnd, framed, table}
+use Rattle.tables.specs.Table.{lengthsOf, commandsOf, wordsOf, countOf, countsFrom, lengthsFrom, sum, cut, commandsAt, wordsAt, tableEnd, framed, table}
 use Rattle.placing.specs.Change.{remove, hasWord, removing}
-use Rattle.tables.specs.Walk.{lengthsAt, seek}
-use Rattle.tables.specs.PartsLaws.{cut-length, cut-lengths, repeated-length, from-length, sum-append, sum-repeated, counts-again}
+use Rattle.tables.specs.Walk.{lengthsAt}
+use Rattle.tables.specs.PartsLaws.{cut-length, cut-lengths, sum-append, counts-again}
 use Rattle.tables.specs.FrameLaws.{framed-told, rows-are, write-is, lengths-count, lengths-sum}
 use Rattle.placing.specs.WriteLaws.{There, there-part, there-behind, sets-next, sets-past, sets-other}
 use Rattle.placing.specs.AfterLaws.{remove-here, remove-past}
 use Rattle.placing.specs.StoredLaws.{count-here, count-there, counts-there, lengths-append, commands-append, words-append}
-use Rattle.tables.specs.FindLaws.{seek-most, Standing, rowAt, standing-rows, standing-look, table-standing}
+use Rattle.tables.specs.FindLaws.{Standing, rowAt, standing-rows, standing-look}
+use Rattle.tables.specs.Seat.{Seated, seated-look}
 
 -- bytes that are moved down -----------------------------------------------------------------------------------------------------------------------
 
@@ -153,9 +154,6 @@ no-rows : (rs : List Row) → length rs ≡ 0 → rs ≡ []
 no-rows [] h = refl
 no-rows (r ∷ rs) h = absurd (omega arith)
 
-pub words-fit : (at most : ℕ) (b : List ℕ) → framed at most b ≡ true → 0 < byteAt b at → wordsAt at most + sum (lengthsAt b at 1) ≤ length b
-words-fit at most b f k = let g = framed-told at most b f in omega (arith, lengths-sum at most b g k, g .few, g .size)
-
 -- it stands there
 module _ (at most : ℕ) (b w before behind : List ℕ) (f : framed at most b ≡ true) (k : 0 < byteAt b at) (one : 1 ≤ length w) (short : length w ≤ wordLimit)
     (s : Standing (lengthsAt b at 1) (drop (wordsAt at most) b) w before behind) where
@@ -184,11 +182,11 @@ module _ (at most : ℕ) (b w before behind : List ℕ) (f : framed at most b �
   size : tableEnd at most ≤ length b
   size = framed-told at most b f .size
 
-  words-few : wordsAt at most + sum (lengthsAt b at 1) ≤ length b
-  words-few = words-fit at most b f k
-
   rows-few : byteAt b at ≤ most
   rows-few = framed-told at most b f .few
+
+  words-few : wordsAt at most + sum (lengthsAt b at 1) ≤ length b
+  words-few = omega (arith, lengths-sum at most b (framed-told at most b f) k, rows-few, size)
 
   left-count : length (xs ++ ys) ≡ byteAt b at - 1
   left-count = omega (arith, length-append xs ys, cut-length before os ws, cut-length behind (drop (length before + 1) os) (drop (sum before + length w) ws), rows-count)
@@ -246,12 +244,12 @@ module _ (at most : ℕ) (b w before behind : List ℕ) (f : framed at most b �
   known : lookupIn (table at most .read b) w ≡ Named.Command (getD os (length before) 0)
   known = ap (λ rs. lookupIn rs w) (rows-are at most b f k) ∙ standing-look s os
 
-  removed : (q : List ℕ) → q ≡ table at most .write (remove w (table at most .read b)) b → (true ≡ hasWord at most w b) × (q ≡ removing at most w b)
+  removed : (q : List ℕ) → q ≡ table at most .write (remove w (table at most .read b)) b → q ≡ removing at most w b
   unfolding hasWord removing
-  removed q e = rw known (refl, e)
+  removed q e = rw known e
 
   -- the only word: one byte is written
-  removed-only : byteAt b at ≡ 1 → (true ≡ hasWord at most w b) × (set b at 0 ≡ removing at most w b)
+  removed-only : byteAt b at ≡ 1 → set b at 0 ≡ removing at most w b
   unfolding commandsOf wordsOf
   removed-only h = removed (set b at 0) (sym (ap (λ rs. table at most .write rs b) (rows-left ∙ no-rows (xs ++ ys) (omega (arith, left-count))) ∙ write-is at most b []))
 
@@ -318,50 +316,20 @@ module _ (at most : ℕ) (b w before behind : List ℕ) (f : framed at most b �
         ∙ ap (λ v. sets v (wordsAt at most) (wordsOf (xs ++ ys))) write-commands
         ∙ write-words
 
-    removed-one : (true ≡ hasWord at most w b) × (fourth ≡ removing at most w b)
+    removed-one : fourth ≡ removing at most w b
     removed-one = removed fourth (sym written)
 
 -- as the code finds it ------------------------------------------------------------------------------------------------------------------------------------
 
--- the word stands in the table: its command at i, the word at q
-pub record Place (at most : ℕ) (b w : List ℕ) (i q : ℕ) : Type 0 where
-  pub before : List ℕ
-  pub behind : List ℕ
-  pub standing : Standing (lengthsAt b at 1) (drop (wordsAt at most) b) w before behind
-  pub row : i ≡ commandsAt at + length before
-  pub word : q ≡ wordsAt at most + sum before
-  pub some : 0 < byteAt b (at + length w)
+module _ {at most : ℕ} {b w : List ℕ} {n p : ℕ} (s : Seated at most b w n p) where
+  pub seated-has : true ≡ hasWord at most w b
+  unfolding hasWord
+  seated-has = rw (← seated-look s (commandsAt at + n) refl) refl
 
-module _ (at most : ℕ) (b w : List ℕ) (f : framed at most b ≡ true) (k : 0 < byteAt b at) (one : 1 ≤ length w) (short : length w ≤ wordLimit) where
-  -- it is the j-th of those as long
-  pub place-found : (rows p j : ℕ) → rows ≡ sum (partOf b (at + 1) (at + length w)) → p ≡ wordsAt at most + sum (lengthsFrom 1 (partOf b (at + 1) (at + length w))) →
-      j ≡ seek (byteAt b (at + length w)) w (drop p b) → (j ≡ byteAt b (at + length w) → ⊥) → Place at most b w (at + 1 + wordLimit + rows + j) (p + j * length w)
-  place-found rows p j r e h n =
-      let m = length w in
-      let c = byteAt b (at + m) in
-      let s = seek c w (drop p b) in
-      let l : s < c = omega (arith, seek-most c w (drop p b), h, n) in
-      let xs = lengthsFrom 1 (partOf b (at + 1) (at + m)) in
-      let ge = ap (λ (x : ℕ). x * m) h in
-      record {
-        before = xs ++ repeated s m;
-        behind = repeated (c - (s + 1)) m ++ lengthsAt b at (m + 1);
-        standing = table-standing at most b w one short (framed-told at most b f .size) f k p e l;
-        row = omega (arith, length-append xs (repeated s m), from-length 1 (partOf b (at + 1) (at + m)), repeated-length s m);
-        word = omega (arith, sum-append xs (repeated s m), sum-repeated s m);
-        some = omega arith;
-      }
+  pub seated-only : byteAt b at ≡ 1 → set b at 0 ≡ removing at most w b
+  seated-only = removed-only at most b w (s .before) (s .behind) (s .frame) (s .some) (s .one) (s .short) (s .standing)
 
-  module _ (i q : ℕ) (s : Place at most b w i q) where
-    pub place-row : i < commandsAt at + byteAt b at
-    place-row = omega (arith, s .row, rows-count at most b w (s .before) (s .behind) f k one short (s .standing))
-
-    pub place-word : q + length w ≤ wordsAt at most + sum (lengthsAt b at 1)
-    place-word = omega (arith, s .word, words-count at most b w (s .before) (s .behind) f k one short (s .standing))
-
-    pub place-only : byteAt b at ≡ 1 → (true ≡ hasWord at most w b) × (set b at 0 ≡ removing at most w b)
-    place-only = removed-only at most b w (s .before) (s .behind) f k one short (s .standing)
-
-    pub place-one : 1 < byteAt b at →
-        (true ≡ hasWord at most w b) × (takenOut b at (length w) i (commandsAt at + byteAt b at) q (wordsAt at most + sum (lengthsAt b at 1)) ≡ removing at most w b)
-    place-one h = rw (s .row, s .word) (removed-one at most b w (s .before) (s .behind) f k one short (s .standing) h)
+  pub seated-one : (i o e : ℕ) → i ≡ commandsAt at + n → o ≡ commandsAt at + byteAt b at → e ≡ wordsAt at most + sum (lengthsAt b at 1) → 1 < byteAt b at →
+      takenOut b at (length w) i o p e ≡ removing at most w b
+  seated-one i o e f g h k =
+      rw (f, g, h, s .row, s .place) (removed-one at most b w (s .before) (s .behind) (s .frame) (s .some) (s .one) (s .short) (s .standing) k)

@@ -1,15 +1,15 @@
 // A word taken out of a table.
 use limits::WORD;
-use tables::find::seek;
+use tables::find::Seat;
+use tables::find::seat_of;
 use tables::frame::end_of;
-use tables::frame::framed;
-use tables::frame::start_of;
 ghost use mathlib.Core.Path.{_≡_};
 ghost use mathlib.Core.Bool.{true};
 ghost use Prim.Native.Nat.{_+_, _-_, _^_, _<_, _≤_};
 ghost use lib.ListN.{length};
 ghost use lib.Seq.{sets};
 ghost use Rattle.scan.specs.Scan.{byteAt, partOf};
+ghost use Rattle.tables.specs.Seat.{Seated};
 ghost use Rattle.tables.specs.Table.{tableEnd};
 ghost use Rattle.placing.specs.Change.{hasWord, removing};
 ghost use Rattle.placing.specs.RemoveLaws.{takenOut};
@@ -47,6 +47,23 @@ fn take_out(b: &mut [u8], at: usize, m: usize, i: usize, o: usize, p: usize, e: 
     move_down(b, p + m, e, m);
 }
 
+// Takes the word out that stands in this row, its bytes from `place` on.
+fn take_word(b: &mut [u8], at: usize, most: usize, w: &[u8], row: usize, place: usize)
+    requires { ⌜ tableEnd at most < 2 ^ 64 ⌝ }
+    requires { ⌜ most ≤ 255 ⌝ }
+    requires { ⌜ Seated at most (now b) (now w) row place ⌝ }
+    ensures { λ r. ⌜ now (b .exit) ≡ removing at most (now (w .entry)) (now (b .entry)) ⌝ }
+{
+    let n = b[at] as usize;
+    if n == 1 {
+        b[at] = 0;
+        return;
+    }
+    let o = at + 1 + WORD;
+    let e = end_of(b, at, most);
+    take_out(b, at, w.len(), o + row, o + n, place, e);
+}
+
 // Takes a word out of the table at `at` with room for `most` words, if it is there, and answers whether it was.
 pub fn remove(b: &mut [u8], at: usize, most: usize, w: &[u8]) -> bool
     requires { ⌜ tableEnd at most < 2 ^ 64 ⌝ }
@@ -54,32 +71,11 @@ pub fn remove(b: &mut [u8], at: usize, most: usize, w: &[u8]) -> bool
     ensures answer { λ r. ⌜ r ≡ hasWord at most (now (w .entry)) (now (b .entry)) ⌝ }
     ensures bytes { λ r. ⌜ now (b .exit) ≡ removing at most (now (w .entry)) (now (b .entry)) ⌝ }
 {
-    let m = w.len();
-    if m == 0 {
-        return false;
+    match seat_of(b, at, most, w) {
+        Seat::Nowhere => false,
+        Seat::Row(row, place) => {
+            take_word(b, at, most, w, row, place);
+            true
+        }
     }
-    if WORD < m {
-        return false;
-    }
-    if !framed(b, at, most) {
-        return false;
-    }
-    let n = b[at] as usize;
-    if n == 0 {
-        return false;
-    }
-    let c = b[at + m] as usize;
-    let g = start_of(b, at, most, m);
-    let j = seek(b, g.place, c, w);
-    if j == c {
-        return false;
-    }
-    if n == 1 {
-        b[at] = 0;
-        return true;
-    }
-    let o = at + 1 + WORD;
-    let e = end_of(b, at, most);
-    take_out(b, at, m, o + g.rows + j, o + n, g.place + j * m, e);
-    true
 }

@@ -14,24 +14,44 @@ fn above(b: u8, k: u64, rest: u64) -> u64
     ((b as u64) << k) | rest
 }
 
-// The eight bytes from `at` on: put together by shifts, they are read as one number and turned round.
+// Eight bytes as one number, the first the highest: put together by shifts.
+fn joined(a: u8, b: u8, c: u8, d: u8, e: u8, f: u8, g: u8, h: u8) -> u64
+    ensures { λ r. ⌜ r ≡ a * 2 ^ 56 + (b * 2 ^ 48 + (c * 2 ^ 40 + (d * 2 ^ 32 + (e * 2 ^ 24 + (f * 2 ^ 16 + (g * 2 ^ 8 + h)))))) ⌝ }
+{
+    let low = above(e, 24, above(f, 16, above(g, 8, h as u64)));
+    above(a, 56, above(b, 48, above(c, 40, above(d, 32, low))))
+}
+
+// The eight bytes from `at` on, the first the highest: they are read at once and turned round.
 pub fn eight(s: &[u8], at: usize) -> u64
     requires { ⌜ at + 8 ≤ length (now s) ⌝ }
     ensures { λ r. ⌜ r ≡ numberAt 0 (now (s .entry)) at 8 ⌝ }
 {
-    let a = above(s[at + 6], 8, s[at + 7] as u64);
-    let b = above(s[at + 4], 24, above(s[at + 5], 16, a));
-    let c = above(s[at + 2], 40, above(s[at + 3], 32, b));
-    above(s[at], 56, above(s[at + 1], 48, c))
+    joined(
+        s[at],
+        s[at + 1],
+        s[at + 2],
+        s[at + 3],
+        s[at + 4],
+        s[at + 5],
+        s[at + 6],
+        s[at + 7],
+    )
 }
 
-// The eight bytes from `at` on, the first the lowest.
+// The same with the first the lowest: they are read at once.
 pub fn low_eight(s: &[u8], at: usize) -> u64
     requires { ⌜ at + 8 ≤ length (now s) ⌝ }
     ensures { λ r. ⌜ r ≡ numberOf (partOf (now (s .entry)) at (at + 8)) ⌝ }
 {
-    let a = above(s[at + 1], 8, s[at] as u64);
-    let b = above(s[at + 3], 24, above(s[at + 2], 16, a));
-    let c = above(s[at + 5], 40, above(s[at + 4], 32, b));
-    above(s[at + 7], 56, above(s[at + 6], 48, c))
+    joined(
+        s[at + 7],
+        s[at + 6],
+        s[at + 5],
+        s[at + 4],
+        s[at + 3],
+        s[at + 2],
+        s[at + 1],
+        s[at],
+    )
 }

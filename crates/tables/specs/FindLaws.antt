@@ -8,7 +8,7 @@ use native.Mathlib.Nat.{mul-suc, suc-mul, mul-lt-mul-of-pos-right, mod-eq-of-lt}
 use native.Mathlib.Omega.{arith}
 use native.Mathlib.Decide.{decLt}
 use lib.Dec.{eqb}
-use lib.ListN.{length, take, drop, getD, length-append, length-take, length-drop, drop-of-length-le}
+use lib.ListN.{length, take, drop, getD, length-take, length-drop, drop-of-length-le}
 use lib.Pow.{pow-add, pow-pos}
 use lib.Seq.{length-take-le, getD-take, getD-drop, drop-drop, ext-getD}
 use borrow.Author.Tests.{eqb-true, eqb-false}
@@ -24,8 +24,8 @@ use Rattle.fields.specs.Field.{Bytes}
 use Rattle.tables.specs.Table.{countOf, repeated, lengthsFrom, sum, cut, commandsAt, wordsAt, tableEnd, framed, table}
 use Rattle.tables.specs.Walk.{lengthsAt, seek}
 use Rattle.tables.specs.Tail.{hiddenOf, tailOf, keyOf}
-use Rattle.tables.specs.PartsLaws.{repeated-length, from-length, sum-append, sum-repeated, count-other, count-later}
-use Rattle.tables.specs.FrameLaws.{Framed, framed-told, rows-unframed, rows-empty, rows-are, lengths-step, lengths-count, lengths-sum}
+use Rattle.tables.specs.PartsLaws.{sum-append, sum-repeated, count-other, count-later}
+use Rattle.tables.specs.FrameLaws.{Framed, framed-told, rows-unframed, rows-empty, rows-are, lengths-step, lengths-sum}
 use Rattle.tables.specs.TailLaws.{number-less, number-same, hidden-short, hidden-long, bytes-part, part-two, tail-key, key-same}
 
 -- numbers -------------------------------------------------------------------------------------------------------------------------------------------
@@ -440,21 +440,6 @@ module _ (at most : ℕ) (b w : List ℕ) (one : 1 ≤ length w) (short : length
     pub group-bytes : wordsAt at most + sum (lengthsFrom 1 before) + count * length w ≤ length b
     group-bytes = omega (arith, room, sum-three (lengthsFrom 1 before) (lengthsAt b at (length w + 1)) count (length w), length-drop (wordsAt at most) b)
 
-    pub group-rows : sum before + count ≤ byteAt b at
-    group-rows =
-        let xs = lengthsFrom 1 before in
-        let g = repeated count (length w) in
-        let ys = lengthsAt b at (length w + 1) in
-        omega (
-          arith,
-          lengths-count at most b (framed-told at most b h) k,
-          ap length three,
-          length-append xs (g ++ ys),
-          length-append g ys,
-          repeated-length count (length w),
-          from-length 1 before,
-        )
-
     -- the one at p, as the code finds it
     module _ (p : ℕ) (e : p ≡ wordsAt at most + sum (lengthsFrom 1 before)) where
       abbrev found : ℕ
@@ -476,12 +461,3 @@ module _ (at most : ℕ) (b w : List ℕ) (one : 1 ≤ length w) (short : length
       table-standing n =
           rw (three, ← found-is)
           (look-standing (lengthsFrom 1 before) (lengthsAt b at (length w + 1)) (drop (wordsAt at most) b) w count none-before none-behind room (rw found-is n))
-
-      pub table-there : found < count → Named.Command (byteAt b (commandsAt at + (sum before + found))) ≡ lookupIn (table at most .read b) w
-      table-there n =
-          let xs = lengthsFrom 1 before in
-          let i : length (xs ++ repeated found (length w)) ≡ sum before + found =
-          omega (arith, length-append xs (repeated found (length w)), from-length 1 before, repeated-length found (length w)) in
-          sym (ap (λ rs. lookupIn rs w) (rows-are at most b h k)
-          ∙ standing-look (table-standing n) (drop (commandsAt at) b)
-          ∙ ap Named.Command (ap (λ (j : ℕ). getD (drop (commandsAt at) b) j 0) i ∙ getD-drop (commandsAt at) b (sum before + found) 0))

@@ -10,3 +10,4 @@ pub mod Kinds
 pub mod AllLaws
 pub mod GoodLaws
 pub mod FindLaws
+pub mod Seat

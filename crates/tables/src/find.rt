@@ -13,9 +13,16 @@ ghost use Rattle.limits.specs.Limits.{wordLimit};
 ghost use Rattle.scan.specs.Number.{numberOf};
 ghost use Rattle.scan.specs.Scan.{partOf};
 ghost use Rattle.words.specs.Words.{same as sameWord, lookupIn};
+ghost use Rattle.tables.specs.Seat.{Found};
 ghost use Rattle.tables.specs.Table.{tableEnd, table};
 ghost use Rattle.tables.specs.Tail.{hiddenOf, keyOf, tailOf};
 ghost use Rattle.tables.specs.Walk.{seek as seekOf};
+
+// Where a word stands: nowhere, or in the row of this number, its bytes from a place on.
+pub enum Seat {
+    Nowhere,
+    Row(usize, usize),
+}
 
 // A word of fewer than eight bytes as a number, the first byte the lowest.
 fn number(w: &[u8]) -> u64
@@ -107,35 +114,46 @@ pub fn seek(b: &[u8], q: usize, c: usize, w: &[u8]) -> usize
     c
 }
 
+// Where a word stands in the table at `at` with room for `most` words.
+pub fn seat_of(b: &[u8], at: usize, most: usize, w: &[u8]) -> Seat
+    requires { ⌜ tableEnd at most < 2 ^ 64 ⌝ }
+    ensures { λ r. ⌜ Found at most (now (b .entry)) (now (w .entry)) r ⌝ }
+{
+    let m = w.len();
+    if m == 0 {
+        return Seat::Nowhere;
+    }
+    if WORD < m {
+        return Seat::Nowhere;
+    }
+    if b.len() < at + 1 + WORD + most + WORD * most {
+        return Seat::Nowhere;
+    }
+    if b[at] == 0 {
+        return Seat::Nowhere;
+    }
+    let c = b[at + m] as usize;
+    if c == 0 {
+        return Seat::Nowhere;
+    }
+    if !framed(b, at, most) {
+        return Seat::Nowhere;
+    }
+    let g = start_of(b, at, most, m);
+    let j = seek(b, g.place, c, w);
+    if j == c {
+        return Seat::Nowhere;
+    }
+    Seat::Row(g.rows + j, g.place + j * m)
+}
+
 // What a word leads to in the table at `at` with room for `most` words.
 pub fn find(b: &[u8], at: usize, most: usize, w: &[u8]) -> Named
     requires { ⌜ tableEnd at most < 2 ^ 64 ⌝ }
     ensures { λ r. ⌜ r ≡ lookupIn (table at most .read (now (b .entry))) (now (w .entry)) ⌝ }
 {
-    let m = w.len();
-    if m == 0 {
-        return Named::Unknown;
+    match seat_of(b, at, most, w) {
+        Seat::Nowhere => Named::Unknown,
+        Seat::Row(n, p) => Named::Command(b[at + 1 + WORD + n] as u64),
     }
-    if WORD < m {
-        return Named::Unknown;
-    }
-    if b.len() < at + 1 + WORD + most + WORD * most {
-        return Named::Unknown;
-    }
-    if b[at] == 0 {
-        return Named::Unknown;
-    }
-    let c = b[at + m] as usize;
-    if c == 0 {
-        return Named::Unknown;
-    }
-    if !framed(b, at, most) {
-        return Named::Unknown;
-    }
-    let g = start_of(b, at, most, m);
-    let j = seek(b, g.place, c, w);
-    if j == c {
-        return Named::Unknown;
-    }
-    Named::Command(b[at + 1 + WORD + g.rows + j] as u64)
 }
