@@ -4,18 +4,17 @@ use lib.ListN.{length, set, length-set}
 use lib.Seq.{sets, length-sets}
 use Rattle.fields.specs.Field.{two}
 use mathlib.Core.Path.{sym, _∙_, ap}
-use native.Mathlib.Omega.{arith}
-use Rattle.store.specs.Splice.{put-length}
 use Rattle.layout.specs.Layout.{addedPlace}
 use Rattle.layout.specs.SoundLaws.{fresh-is}
+use borrow.Author.Needs.{needs}
 use Rattle.layout.proofs.bytes.clear.Statement.{statement}
 use Rattle.layout.proofs.bytes.clear.Tie as tie
 
 put-two-requires : tie.Need-put-two-requires
-put-two-requires c κs = (omega arith, record { fits = omega (arith, c .before .before .pre) })
+put-two-requires c κs = search needs
 
 slice-write-b : tie.Need-slice-write-b
-slice-write-b c = omega (arith, c .before .before .before .before .before .pre, put-length (c .before .before .put-two .ensures))
+slice-write-b c = search needs
 
 same-length : tie.Need-same-length
 same-length c =
