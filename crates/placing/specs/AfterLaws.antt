@@ -17,6 +17,7 @@ use Rattle.fields.specs.BoolLaws.{and-both}
 use Rattle.tables.specs.Table.{isAfter}
 use Rattle.tables.specs.TailLaws.{number-same, after-is}
 use Rattle.placing.specs.Change.{row, insert, remove}
+use Rattle.tables.specs.OrderLaws.{after-longer}
 
 -- the order ------------------------------------------------------------------------------------------------------------------------------------------
 
@@ -41,10 +42,6 @@ after-told v w h = go (ltb (length v) (length w)) refl
         let k : eqb (length v) (length w) && ltb (numberOf v) (numberOf w) ≡ true = rw e at h in
         let p = and-both (eqb (length v) (length w)) (ltb (numberOf v) (numberOf w)) k in
         inr (eqb-true (length v) (length w) (p .0), ltb-true (numberOf v) (numberOf w) (p .1))
-
-pub after-longer : (v w : List ℕ) → length v < length w → isAfter v w ≡ true
-unfolding isAfter
-after-longer v w h = rw (lt-ltb (length v) (length w) h)
 
 after-above : (v w : List ℕ) → length v ≡ length w → numberOf v < numberOf w → isAfter v w ≡ true
 after-above v w e h = after-is v w e ∙ lt-ltb (numberOf v) (numberOf w) h

@@ -2,12 +2,12 @@
 -- Assumes nothing.
 use mathlib.Core.Path.{_≡_, refl, sym, _∙_, ap}
 use mathlib.Core.Bool.{Bool, true, false, cond, _&&_}
-use mathlib.Core.List.{List, [], _∷_, _++_, append-assoc}
+use mathlib.Core.List.{List, [], _∷_, _++_}
 use Prim.Native.Nat.{ℕ, zero, suc, _+_, _-_, _*_, _<_, _≤_}
 use native.Mathlib.Nat.{mul-le-mul-right}
 use native.Mathlib.Omega.{arith}
 use lib.Dec.{ltb}
-use lib.ListN.{length, take, drop, getD, length-take, drop-of-length-le}
+use lib.ListN.{length, take, drop, length-take, drop-of-length-le}
 use lib.Seq.{getD-drop, getD-take, drop-drop, length-take-le}
 use borrow.Author.Tests.{ltb-true, ltb-false, eq-eqb, ne-eqb, lt-ltb, le-ltb}
 use Rattle.scan.specs.Number.{numberOf}
@@ -21,8 +21,10 @@ use Rattle.fields.specs.BoolLaws.{and-both, and-of}
 use Rattle.tables.specs.Table.{isAfter, repeated, lengthsFrom, sum, cut}
 use Rattle.tables.specs.TailLaws.{high-less, bytes-part, after-is}
 use Rattle.placing.specs.Change.{row, insert}
-use Rattle.placing.specs.AfterLaws.{after-longer, after-back, after-other, insert-here, insert-past}
+use Rattle.placing.specs.AfterLaws.{after-back, after-other, insert-here, insert-past}
 use Rattle.tables.specs.Walk.{rank}
+use Rattle.tables.specs.PartsLaws.{cut-two}
+use Rattle.tables.specs.OrderLaws.{after-longer}
 
 -- two words of one length --------------------------------------------------------------------------------------------------------------------------
 
@@ -164,31 +166,7 @@ before-append w (x ∷ xs) ys h k =
     let p = and-both (isAfter (x .word) w) (allBefore w xs) h in
     and-of (p .0) (before-append w xs ys (p .1) k)
 
--- rows cut in two ----------------------------------------------------------------------------------------------------------------------------------------
-
-pub cut-two : (u v cs ws : List ℕ) → cut (u ++ v) cs ws ≡ cut u cs ws ++ cut v (drop (length u) cs) (drop (sum u) ws)
-unfolding cut sum
-cut-two [] v cs ws = refl
-cut-two (l ∷ u) v cs ws =
-    let r = row (take l ws) (getD cs 0 0) in
-    let e : 1 + length u ≡ suc (length u) = omega arith in
-    ap (λ t. r ∷ t) (cut-two u v (drop 1 cs) (drop l ws))
-    ∙ ap (λ t. r ∷ (cut u (drop 1 cs) (drop l ws) ++ cut v t (drop (sum u) (drop l ws)))) (drop-drop (length u) 1 cs ∙ ap (λ (k : ℕ). drop k cs) e)
-    ∙ ap (λ t. r ∷ (cut u (drop 1 cs) (drop l ws) ++ cut v (drop (suc (length u)) cs) t)) (drop-drop (sum u) l ws)
-
-pub repeated-two : (j d m : ℕ) → repeated (j + d) m ≡ repeated j m ++ repeated d m
-unfolding repeated
-repeated-two zero d m = let e : 0 + d ≡ d = omega arith in ap (λ (k : ℕ). repeated k m) e
-repeated-two (suc j) d m = let e : suc j + d ≡ suc (j + d) = omega arith in ap (λ (k : ℕ). repeated k m) e ∙ ap (λ v. m ∷ v) (repeated-two j d m)
-
-pub from-append : (k : ℕ) (u v : List ℕ) → lengthsFrom k (u ++ v) ≡ lengthsFrom k u ++ lengthsFrom (k + length u) v
-unfolding lengthsFrom
-from-append k [] v = let e : k ≡ k + 0 = omega arith in ap (λ (j : ℕ). lengthsFrom j v) e
-from-append k (x ∷ u) v =
-    let e : suc k + length u ≡ k + suc (length u) = omega arith in
-    ap (λ t. repeated x k ++ t) (from-append (suc k) u v)
-    ∙ ap (λ (j : ℕ). repeated x k ++ (lengthsFrom (suc k) u ++ lengthsFrom j v)) e
-    ∙ sym (append-assoc (repeated x k) (lengthsFrom (suc k) u) (lengthsFrom (k + suc (length u)) v))
+-- words of other lengths -------------------------------------------------------------------------------------------------------------------------------
 
 -- words of lower lengths come before a word
 short-repeated : (w : List ℕ) (c l : ℕ) (cs ws : List ℕ) → l < length w → allBefore w (cut (repeated c l) cs ws) ≡ true

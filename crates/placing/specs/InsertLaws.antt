@@ -28,8 +28,9 @@ use Rattle.placing.specs.AfterLaws.{insert-same}
 use Rattle.placing.specs.KeepLaws.{rows-told, not-later}
 use Rattle.placing.specs.ChangeLaws.{rank-most, rows-fit, ahead, insert-beyond, insert-ahead, lookup-beyond}
 use Rattle.placing.specs.StoredLaws.{Stored, stored, stored-words, words-append, write-other, write-new}
-use Rattle.placing.specs.PlaceLaws.{group-fits, group-few, firstRows, lastRows, nextRows, command, rows-two, first-count, first-bytes, first-before, last-known, last-ahead}
+use Rattle.placing.specs.PlaceLaws.{group-few, firstRows, lastRows, nextRows, command, rows-two, first-count, first-bytes, first-before, last-known, last-ahead}
 use Rattle.placing.specs.Insert.{withFirst, withNew, Among, Opening, Located}
+use Rattle.tables.specs.FindLaws.{group-bytes}
 
 -- whether there is no place ----------------------------------------------------------------------------------------------------------------------------
 
@@ -159,7 +160,7 @@ module _ (at most : ℕ) (b w : List ℕ) (p : Among at most b w) where
 
   -- its row and its place are numbers that the table has
   fits : start + own * length w ≤ length b
-  fits = group-fits at most b w (p .framed) (p .some) (p .one) (p .short)
+  fits = group-bytes at most b w (p .one) (p .short) (framed-told at most b (p .framed) .size) (p .framed) (p .some)
 
   module _ (place j : ℕ) (at-start : place ≡ start) (ranked : j ≡ rank own w (drop place b)) where
     j-most : j ≤ own

@@ -20,8 +20,9 @@ use Rattle.fields.specs.Field.{Bytes}
 use Rattle.fields.specs.BoolLaws.{and-both, and-of}
 use Rattle.tables.specs.Table.{isAfter, isName, goodRow, goodRows, goodTable}
 use Rattle.placing.specs.Change.{row, insert, remove, isFull}
-use Rattle.placing.specs.AfterLaws.{same-back, after-longer, after-then, after-self, after-either}
+use Rattle.placing.specs.AfterLaws.{same-back, after-then, after-self, after-either}
 use Rattle.placing.specs.AfterLaws.{insert-here, insert-same, insert-past, remove-here, remove-past, Side, less, alike, other, side}
+use Rattle.tables.specs.OrderLaws.{after-longer}
 
 -- names are words of bytes ---------------------------------------------------------------------------------------------------------------------------
 

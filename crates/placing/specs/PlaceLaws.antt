@@ -16,48 +16,17 @@ use Rattle.words.specs.Words.{Row, same}
 use Rattle.words.specs.LookupLaws.{same-eq}
 use Rattle.fields.specs.Field.{Bytes}
 use Rattle.tables.specs.Table.{isAfter, lengthsOf, wordsOf, repeated, lengthsFrom, sum, cut, commandsAt, wordsAt, framed, table}
-use Rattle.tables.specs.PartsLaws.{cut-length, cut-lengths, words-length, repeated-length, from-length, sum-append, sum-repeated}
+use Rattle.tables.specs.PartsLaws.{cut-length, cut-lengths, words-length, repeated-length, from-length, sum-append, sum-repeated, cut-two, repeated-two}
 use Rattle.tables.specs.Walk.{lengthsAt, rank}
-use Rattle.tables.specs.FrameLaws.{Framed, framed-told, lengths-step, lengths-sum, rows-are}
+use Rattle.tables.specs.FrameLaws.{Framed, framed-told, rows-are, lengths-fit}
 use Rattle.tables.specs.TailLaws.{bytes-part, part-two}
 use Rattle.placing.specs.WriteLaws.{part-step}
 use Rattle.placing.specs.Change.{row}
 use Rattle.placing.specs.AfterLaws.{same-back, after-either}
-use Rattle.placing.specs.ChangeLaws.{allBefore, ahead, before-append, cut-two, repeated-two, from-append, short-before, long-ahead, rank-before, rank-most, rank-next}
+use Rattle.placing.specs.ChangeLaws.{allBefore, ahead, before-append, short-before, long-ahead, rank-before, rank-most, rank-next}
+use Rattle.tables.specs.FindLaws.{lengths-three}
 
--- the lengths: those below its own, its own, those above
-lengths-three : (at : ℕ) (b w : List ℕ) → commandsAt at ≤ length b → 1 ≤ length w → length w ≤ wordLimit →
-    lengthsAt b at 1 ≡ lengthsFrom 1 (partOf b (at + 1) (at + length w)) ++ (repeated (byteAt b (at + length w)) (length w) ++ lengthsAt b at (length w + 1))
-lengths-three at b w size one short =
-    let m = length w in
-    let v = partOf b (at + 1) (at + m) in
-    let n : 1 + length v ≡ m = omega (arith, part-length b (at + 1) (at + m) (omega arith)) in
-    ap (lengthsFrom 1) (sym (part-two b (at + 1) (at + m) (commandsAt at) (omega arith) (omega arith)))
-    ∙ from-append 1 v (partOf b (at + m) (commandsAt at))
-    ∙ ap (λ (k : ℕ). lengthsFrom 1 v ++ lengthsFrom k (partOf b (at + m) (commandsAt at))) n
-    ∙ ap (λ u. lengthsFrom 1 v ++ u) (lengths-step b at m short size)
-
--- those of its own length are all there
-pub group-fits : (at most : ℕ) (b w : List ℕ) → framed at most b ≡ true → 0 < byteAt b at → 1 ≤ length w → length w ≤ wordLimit →
-    wordsAt at most + sum (lengthsFrom 1 (partOf b (at + 1) (at + length w))) + byteAt b (at + length w) * length w ≤ length b
-group-fits at most b w h some one short =
-    let f = framed-told at most b h in
-    let m = length w in
-    let u = lengthsFrom 1 (partOf b (at + 1) (at + m)) in
-    let v = repeated (byteAt b (at + m)) m in
-    let z = lengthsAt b at (m + 1) in
-    omega (
-      arith,
-      f .size,
-      f .few,
-      lengths-sum at most b f some,
-      ap sum (lengths-three at b w (omega (arith, f .size)) one short),
-      sum-append u (v ++ z),
-      sum-append v z,
-      sum-repeated (byteAt b (at + m)) m,
-    )
-
--- and no more than all
+-- of its own length there are no more than all
 pub group-few : (at most : ℕ) (b w : List ℕ) → framed at most b ≡ true → 0 < byteAt b at → 1 ≤ length w → length w ≤ wordLimit →
     sum (partOf b (at + 1) (at + length w)) + byteAt b (at + length w) ≤ byteAt b at
 unfolding sum
@@ -105,7 +74,7 @@ module _ (at most : ℕ) (b w : List ℕ) (j : ℕ) where
         let m = length w in
         let z = lengthsAt b at (m + 1) in
         let d : own ≡ j + (own - j) = omega (arith, j-most) in
-        lengths-three at b w (omega (arith, f .size)) one short
+        lengths-three b at (length w) one short (omega (arith, f .size))
         ∙ ap (λ (k : ℕ). lengthsFrom 1 lower ++ (repeated k m ++ z)) d
         ∙ ap (λ v. lengthsFrom 1 lower ++ (v ++ z)) (repeated-two j (own - j) m)
         ∙ ap (λ v. lengthsFrom 1 lower ++ v) (append-assoc (repeated j m) (repeated (own - j) m) z)
@@ -119,7 +88,7 @@ module _ (at most : ℕ) (b w : List ℕ) (j : ℕ) where
 
     -- all their bytes are there
     bytes-there : wordsAt at most + (sum head + sum tail) ≤ length b
-    bytes-there = omega (arith, f .size, f .few, lengths-sum at most b f some, ap sum all-lengths, sum-append head tail)
+    bytes-there = omega (arith, lengths-fit at most b f some, ap sum all-lengths, sum-append head tail)
 
     pub first-count : length firstRows ≡ sum lower + j
     first-count =

@@ -7,7 +7,7 @@ use Prim.Native.Nat.{ℕ, zero, suc, _+_, _-_, _<_, _≤_}
 use native.Mathlib.Omega.{arith}
 use lib.Dec.{eqb}
 use lib.ListN.{length, take, drop, getD, set, length-append, length-drop, length-set}
-use lib.Seq.{sets, length-sets, take-suc, take-add, drop-drop, getD-take, getD-drop}
+use lib.Seq.{sets, length-sets, take-suc, drop-drop, getD-take, getD-drop}
 use borrow.Author.Tests.{eqb-true, eqb-false, ne-eqb}
 use Rattle.limits.specs.Limits.{wordLimit}
 use Rattle.scan.specs.Scan.{byteAt, partOf}
@@ -19,13 +19,14 @@ use Rattle.words.specs.LookupLaws.{lookup-here, lookup-past}
 use Rattle.tables.specs.Table.{lengthsOf, commandsOf, wordsOf, countOf, countsFrom, lengthsFrom, sum, cut, commandsAt, wordsAt, tableEnd, framed, table}
 use Rattle.placing.specs.Change.{remove, hasWord, removing}
 use Rattle.tables.specs.Walk.{lengthsAt}
-use Rattle.tables.specs.PartsLaws.{cut-length, cut-lengths, sum-append, counts-again}
-use Rattle.tables.specs.FrameLaws.{framed-told, rows-are, write-is, lengths-count, lengths-sum}
-use Rattle.placing.specs.WriteLaws.{There, there-part, there-behind, sets-next, sets-past, sets-other}
+use Rattle.tables.specs.PartsLaws.{cut-length, cut-lengths, sum-append, counts-again, commands-taken, words-taken}
+use Rattle.tables.specs.FrameLaws.{framed-told, rows-are, write-is, lengths-count, lengths-fit}
+use Rattle.placing.specs.WriteLaws.{There, there-part, there-behind, sets-past, sets-other}
 use Rattle.placing.specs.AfterLaws.{remove-here, remove-past}
 use Rattle.placing.specs.StoredLaws.{count-here, count-there, counts-there, lengths-append, commands-append, words-append}
 use Rattle.tables.specs.FindLaws.{Standing, rowAt, standing-rows, standing-look}
 use Rattle.tables.specs.Seat.{Seated, seated-look}
+use Rattle.store.specs.Splice.{sets-append}
 
 -- bytes that are moved down -----------------------------------------------------------------------------------------------------------------------
 
@@ -47,7 +48,7 @@ moved-down s b from i k h j l e =
     ap (set b (i - k)) x
     ∙ ap (λ r. set r (i - k) (byteAt s i)) e
     ∙ ap (λ (m : ℕ). set (sets s (from - k) v) m (byteAt s i)) (sym n)
-    ∙ sets-next s (from - k) v (byteAt s i ∷ [])
+    ∙ sets-append s (from - k) v (byteAt s i ∷ [])
     ∙ ap (sets s (from - k)) (sym (part-more s from i j l))
 
 -- one of several rows taken out: the number and the count of its length are one less, the commands behind i up to o are moved down by one,
@@ -103,18 +104,6 @@ remove-at w (x ∷ xs) r ys n h = go (same w (x .word)) refl (λ k. remove-at w 
     go : (t : Bool) → same w (x .word) ≡ t → (lookupIn xs w ≡ Named.Unknown → remove w (xs ++ r ∷ ys) ≡ xs ++ ys) → remove w (x ∷ (xs ++ r ∷ ys)) ≡ x ∷ (xs ++ ys)
     go true e again = let z : _≡_ {A = ℕ} 0 1 = cc (lookup-here x xs w e) in absurd (omega arith)
     go false e again = remove-past x (xs ++ r ∷ ys) w e ∙ ap (λ rs. x ∷ rs) (again (sym (lookup-past x xs w e) ∙ n))
-
--- the commands and the words of rows that are cut out of longer bytes
-commands-taken : (ls os ws : List ℕ) → length ls ≤ length os → commandsOf (cut ls os ws) ≡ take (length ls) os
-unfolding cut commandsOf
-commands-taken [] os ws h = refl
-commands-taken (l ∷ ls) [] ws h = absurd (omega arith)
-commands-taken (l ∷ ls) (o ∷ os) ws h = ap (λ v. o ∷ v) (commands-taken ls os (drop l ws) (omega arith))
-
-words-taken : (ls os ws : List ℕ) → wordsOf (cut ls os ws) ≡ take (sum ls) ws
-unfolding cut wordsOf sum
-words-taken [] os ws = refl
-words-taken (l ∷ ls) os ws = ap (λ v. take l ws ++ v) (words-taken ls (drop 1 os) (drop l ws)) ∙ sym (take-add l (sum ls) ws)
 
 -- counts with one less ----------------------------------------------------------------------------------------------------------------------------------
 
@@ -186,7 +175,7 @@ module _ (at most : ℕ) (b w before behind : List ℕ) (f : framed at most b �
   rows-few = framed-told at most b f .few
 
   words-few : wordsAt at most + sum (lengthsAt b at 1) ≤ length b
-  words-few = omega (arith, lengths-sum at most b (framed-told at most b f) k, rows-few, size)
+  words-few = lengths-fit at most b (framed-told at most b f) k
 
   left-count : length (xs ++ ys) ≡ byteAt b at - 1
   left-count = omega (arith, length-append xs ys, cut-length before os ws, cut-length behind (drop (length before + 1) os) (drop (sum before + length w) ws), rows-count)

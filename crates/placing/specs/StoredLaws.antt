@@ -17,7 +17,7 @@ use Rattle.words.specs.Words.{Row}
 use Rattle.tables.specs.Table.{lengthsOf, commandsOf, wordsOf, countOf, countsFrom, sum, cut, commandsAt, wordsAt, tableEnd, framed, table}
 use Rattle.tables.specs.PartsLaws.{cut-length, cut-lengths, cut-commands, cut-words, cut-append, commands-length, counts-again, counts-length}
 use Rattle.tables.specs.Walk.{lengthsAt}
-use Rattle.tables.specs.FrameLaws.{Framed, framed-told, lengths-count, lengths-sum, rows-are, write-is}
+use Rattle.tables.specs.FrameLaws.{Framed, framed-told, lengths-count, rows-are, write-is, lengths-fit}
 use Rattle.placing.specs.WriteLaws.{There, there-part, there-byte, there-first, there-rest, there-behind, sets-there, sets-past, sets-other}
 use Rattle.placing.specs.Change.{row}
 
@@ -46,11 +46,8 @@ module _ (at most : ℕ) (b : List ℕ) (f : Framed at most b) (some : 0 < byteA
   commands-long : length os ≡ n
   commands-long = omega (arith, part-length b (commandsAt at) (commandsAt at + n) (omega (arith, f .size, f .few)))
 
-  words-end : wordsAt at most + sum ls ≤ length b
-  words-end = omega (arith, f .size, f .few, lengths-sum at most b f some)
-
   words-long : length ws ≡ sum ls
-  words-long = omega (arith, part-length b (wordsAt at most) (wordsAt at most + sum ls) words-end)
+  words-long = omega (arith, part-length b (wordsAt at most) (wordsAt at most + sum ls) (lengths-fit at most b f some))
 
   abbrev rows : List Row
   rows = cut ls (drop (commandsAt at) b) (drop (wordsAt at most) b)
@@ -74,7 +71,7 @@ module _ (at most : ℕ) (b : List ℕ) (f : Framed at most b) (some : 0 < byteA
   cut-stored =
       let ct = partOf b (at + 1) (commandsAt at) in
       let k : length ct ≡ wordLimit = omega (arith, part-length b (at + 1) (commandsAt at) (omega (arith, f .size))) in
-      let l : lengthsOf rows ≡ ls = cut-lengths ls (drop (commandsAt at) b) (drop (wordsAt at most) b) (omega (arith, length-drop (wordsAt at most) b, words-end)) in
+      let l : lengthsOf rows ≡ ls = cut-lengths ls (drop (commandsAt at) b) (drop (wordsAt at most) b) (omega (arith, length-drop (wordsAt at most) b, lengths-fit at most b f some)) in
       let cl : length rows ≡ n = cut-length ls (drop (commandsAt at) b) (drop (wordsAt at most) b) ∙ lengths-count at most b f some in
       let ec : countsFrom wordLimit 1 (lengthsOf rows) ≡ ct = ap (countsFrom wordLimit 1) l ∙ ap (λ (j : ℕ). countsFrom j 1 ls) (sym k) ∙ counts-again 1 ct in
       let eo : commandsOf rows ≡ os = ap commandsOf rows-cut ∙ cut-commands ls os ws (lengths-count at most b f some ∙ sym commands-long) in
@@ -85,7 +82,7 @@ module _ (at most : ℕ) (b : List ℕ) (f : Framed at most b) (some : 0 < byteA
         few = omega (arith, f .few, cl);
         counts = rw ec (there-part b (at + 1) (commandsAt at) (omega arith) (omega (arith, f .size)));
         commands = rw eo (there-part b (commandsAt at) (commandsAt at + n) (omega arith) (omega (arith, f .size, f .few)));
-        words = rw ew (there-part b (wordsAt at most) (wordsAt at most + sum ls) (omega arith) words-end);
+        words = rw ew (there-part b (wordsAt at most) (wordsAt at most + sum ls) (omega arith) (lengths-fit at most b f some));
       }
 
   cut-words-long : length (wordsOf rows) ≡ sum ls

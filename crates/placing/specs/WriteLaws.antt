@@ -10,6 +10,7 @@ use Rattle.scan.specs.Scan.{byteAt, partOf}
 use Rattle.scan.specs.RunLaws.{drop-step}
 use Rattle.scan.specs.PartLaws.{part-length, part-part}
 use Rattle.fields.specs.SetsLaws.{byte-before, part-behind, sets-part}
+use Rattle.store.specs.Splice.{sets-append}
 
 -- one byte and others apart from it, in either order
 set-sets : (s : List ℕ) (i x at : ℕ) (v : List ℕ) → i < at → set (sets s at v) i x ≡ sets (set s i x) at v
@@ -22,14 +23,8 @@ sets-apart s a [] e v h = refl
 sets-apart s a (x ∷ u) e v h = ap (λ r. sets r (suc a) u) (set-sets s a x e v (omega arith)) ∙ sets-apart (set s a x) (suc a) u e v (omega arith)
 
 -- two side by side are one, whichever is written first
-pub sets-next : (s : List ℕ) (at : ℕ) (u v : List ℕ) → sets (sets s at u) (at + length u) v ≡ sets s at (u ++ v)
-sets-next s at [] v = let e : at + 0 ≡ at = omega arith in ap (λ (k : ℕ). sets s k v) e
-sets-next s at (x ∷ u) v =
-    let e : at + suc (length u) ≡ suc at + length u = omega arith in
-    ap (λ (k : ℕ). sets (sets (set s at x) (suc at) u) k v) e ∙ sets-next (set s at x) (suc at) u v
-
 sets-back : (s : List ℕ) (at : ℕ) (u v : List ℕ) → sets (sets s (at + length u) v) at u ≡ sets s at (u ++ v)
-sets-back s at u v = sets-apart s at u (at + length u) v (omega arith) ∙ sets-next s at u v
+sets-back s at u v = sets-apart s at u (at + length u) v (omega arith) ∙ sets-append s at u v
 
 pub sets-moved : {r t : List ℕ} (s : List ℕ) (at : ℕ) (u v : List ℕ) → r ≡ sets s (at + length u) v → t ≡ sets r at u → t ≡ sets s at (u ++ v)
 sets-moved s at u v e f = f ∙ ap (λ x. sets x at u) e ∙ sets-back s at u v
@@ -95,7 +90,7 @@ sets-there {s} {at} {v} h = ap (sets s at) (sym (h .same)) ∙ sets-part s at (a
 
 -- what begins with it is written from its end on
 pub sets-past : {s : List ℕ} {at : ℕ} {u : List ℕ} (v : List ℕ) → There s at u → sets s at (u ++ v) ≡ sets s (at + length u) v
-sets-past {s} {at} {u} v h = sym (sets-next s at u v) ∙ ap (λ r. sets r (at + length u) v) (sets-there h)
+sets-past {s} {at} {u} v h = sym (sets-append s at u v) ∙ ap (λ r. sets r (at + length u) v) (sets-there h)
 
 -- where one byte of it is another, only that one is written
 pub sets-other : {s : List ℕ} {at : ℕ} {v : List ℕ} (j x : ℕ) → There s at v → j < length v → sets s at (set v j x) ≡ set s (at + j) x

@@ -24,8 +24,8 @@ use Rattle.fields.specs.Field.{Bytes}
 use Rattle.tables.specs.Table.{countOf, repeated, lengthsFrom, sum, cut, commandsAt, wordsAt, tableEnd, framed, table}
 use Rattle.tables.specs.Walk.{lengthsAt, seek}
 use Rattle.tables.specs.Tail.{hiddenOf, tailOf, keyOf}
-use Rattle.tables.specs.PartsLaws.{sum-append, sum-repeated, count-other, count-later}
-use Rattle.tables.specs.FrameLaws.{Framed, framed-told, rows-unframed, rows-empty, rows-are, lengths-step, lengths-sum}
+use Rattle.tables.specs.PartsLaws.{sum-append, sum-repeated, count-other, count-later, cut-two, from-append, repeated-two}
+use Rattle.tables.specs.FrameLaws.{Framed, framed-told, rows-unframed, rows-empty, rows-are, lengths-step, lengths-fit}
 use Rattle.tables.specs.TailLaws.{number-less, number-same, hidden-short, hidden-long, bytes-part, part-two, tail-key, key-same}
 
 -- numbers -------------------------------------------------------------------------------------------------------------------------------------------
@@ -255,31 +255,6 @@ look-before (suc j) (suc c) os ws w h = go (same w (take (length w) ws)) refl (l
     go true e again = absurd (omega (arith, seek-yes c w ws e))
     go false e again = lookup-past _ _ w e ∙ again (omega (arith, seek-no c w ws e))
 
--- rows in two parts -----------------------------------------------------------------------------------------------------------------------------------
-
-pub cut-two : (xs ys os ws : List ℕ) → cut (xs ++ ys) os ws ≡ cut xs os ws ++ cut ys (drop (length xs) os) (drop (sum xs) ws)
-unfolding cut sum
-cut-two [] ys os ws = refl
-cut-two (x ∷ xs) ys os ws =
-    let r : Row = record { word = take x ws; command = getD os 0 0 } in
-    let n : 1 + length xs ≡ suc (length xs) = omega arith in
-    ap (λ rs. r ∷ rs) (cut-two xs ys (drop 1 os) (drop x ws))
-    ∙ ap (λ v. r ∷ (cut xs (drop 1 os) (drop x ws) ++ cut ys v (drop (sum xs) (drop x ws)))) (drop-drop (length xs) 1 os ∙ ap (λ (k : ℕ). drop k os) n)
-    ∙ ap (λ v. r ∷ (cut xs (drop 1 os) (drop x ws) ++ cut ys (drop (suc (length xs)) os) v)) (drop-drop (sum xs) x ws)
-
-pub lengths-append : (m : ℕ) (xs ys : List ℕ) → lengthsFrom m (xs ++ ys) ≡ lengthsFrom m xs ++ lengthsFrom (m + length xs) ys
-unfolding lengthsFrom
-lengths-append m [] ys = let z : m ≡ m + 0 = omega arith in ap (λ (n : ℕ). lengthsFrom n ys) z
-lengths-append m (x ∷ xs) ys =
-    let e : suc m + length xs ≡ m + suc (length xs) = omega arith in
-    ap (λ v. repeated x m ++ v) (lengths-append (suc m) xs ys ∙ ap (λ (n : ℕ). lengthsFrom (suc m) xs ++ lengthsFrom n ys) e)
-    ∙ sym (append-assoc (repeated x m) (lengthsFrom (suc m) xs) (lengthsFrom (m + suc (length xs)) ys))
-
-repeated-split : (j k m : ℕ) → repeated (j + suc k) m ≡ repeated j m ++ m ∷ repeated k m
-unfolding repeated
-repeated-split zero k m = let z : 0 + suc k ≡ suc k = omega arith in ap (λ (n : ℕ). repeated n m) z
-repeated-split (suc j) k m = let e : suc j + suc k ≡ suc (j + suc k) = omega arith in ap (λ (n : ℕ). repeated n m) e ∙ ap (λ v. m ∷ v) (repeated-split j k m)
-
 count-before : (m k : ℕ) (cs : List ℕ) → k + length cs ≤ m → countOf m (lengthsFrom k cs) ≡ 0
 unfolding countOf lengthsFrom
 count-before m k [] h = refl
@@ -342,6 +317,7 @@ module _ (xs ys ws w : List ℕ) (c : ℕ) (nx : countOf (length w) xs ≡ 0) (n
 
   -- or the one at its place
   look-standing : place < c → Standing (xs ++ (repeated c (length w) ++ ys)) ws w (xs ++ repeated place (length w)) (repeated (c - (place + 1)) (length w) ++ ys)
+  unfolding repeated
   look-standing h =
       let m = length w in
       let k : sum xs ≤ length ws = omega (arith, sums) in
@@ -350,7 +326,7 @@ module _ (xs ys ws w : List ℕ) (c : ℕ) (nx : countOf (length w) xs ≡ 0) (n
       record {
         lengths =
             ap (λ (i : ℕ). xs ++ (repeated i m ++ ys)) n
-            ∙ ap (λ v. xs ++ (v ++ ys)) (repeated-split place (c - (place + 1)) m)
+            ∙ ap (λ v. xs ++ (v ++ ys)) (repeated-two place (suc (c - (place + 1))) m)
             ∙ ap (λ v. xs ++ v) (append-assoc (repeated place m) (m ∷ repeated (c - (place + 1)) m) ys)
             ∙ sym (append-assoc xs (repeated place m) (m ∷ (repeated (c - (place + 1)) m ++ ys)));
         none = λ os.
@@ -368,20 +344,20 @@ count-append m [] ys = omega arith
 count-append m (x ∷ xs) ys = omega (arith, count-append m xs ys)
 
 -- the lengths before m, of m and behind
-lengths-three : (b : List ℕ) (at m : ℕ) → 1 ≤ m → m ≤ wordLimit → commandsAt at ≤ length b →
+pub lengths-three : (b : List ℕ) (at m : ℕ) → 1 ≤ m → m ≤ wordLimit → commandsAt at ≤ length b →
     lengthsAt b at 1 ≡ lengthsFrom 1 (partOf b (at + 1) (at + m)) ++ (repeated (byteAt b (at + m)) m ++ lengthsAt b at (m + 1))
 lengths-three b at m h k l =
     let xs = partOf b (at + 1) (at + m) in
     let n : 1 + length xs ≡ m = omega (arith, part-length b (at + 1) (at + m) (omega arith)) in
     ap (lengthsFrom 1) (sym (part-two b (at + 1) (at + m) (commandsAt at) (omega arith) (omega arith)))
-    ∙ lengths-append 1 xs (partOf b (at + m) (commandsAt at))
+    ∙ from-append 1 xs (partOf b (at + m) (commandsAt at))
     ∙ ap (λ (i : ℕ). lengthsFrom 1 xs ++ lengthsFrom i (partOf b (at + m) (commandsAt at))) n
     ∙ ap (λ v. lengthsFrom 1 xs ++ v) (lengths-step b at m k l)
 
 -- no word of the table is as long
 module _ (at most : ℕ) (b w : List ℕ) where
   words-room : Framed at most b → 0 < byteAt b at → sum (lengthsAt b at 1) ≤ length (drop (wordsAt at most) b)
-  words-room f k = omega (arith, lengths-sum at most b f k, length-drop (wordsAt at most) b, f .size, f .few)
+  words-room f k = omega (arith, lengths-fit at most b f k, length-drop (wordsAt at most) b)
 
   pub table-unframed : framed at most b ≡ false → Named.Unknown ≡ lookupIn (table at most .read b) w
   table-unframed h = sym (ap (λ rs. lookupIn rs w) (rows-unframed at most b h) ∙ look-empty w)

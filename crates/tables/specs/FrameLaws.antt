@@ -162,6 +162,9 @@ module _ (at most : ℕ) (b : List ℕ) where
         let l = part-length b (at + 1) (commandsAt at) (omega (arith, f .size)) in
         omega (arith, from-most wordLimit 1 (partOf b (at + 1) (commandsAt at)) (omega (arith, l)), f .total k)
 
+    pub lengths-fit : wordsAt at most + sum (lengthsAt b at 1) ≤ length b
+    lengths-fit = omega (arith, lengths-sum, f .size, f .few)
+
     -- the commands and the words that are read
     commands-read : readParts .1 .1 .0 ≡ take (byteAt b at) (drop (commandsAt at) b)
     unfolding partsField thenField byteField bytesField fit

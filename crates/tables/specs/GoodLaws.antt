@@ -14,7 +14,7 @@ use Rattle.scan.specs.Bytes.{isWord}
 use Rattle.scan.specs.Scan.{byteAt, partOf, runFrom, runAt}
 use Rattle.scan.specs.PartLaws.{part-length}
 use Rattle.tables.specs.Table.{isAfter, isName, goodRow, goodRows, repeated, lengthsFrom, sum, cut, commandsAt, wordsAt, framed, table}
-use Rattle.tables.specs.FrameLaws.{framed-told, lengths-count, lengths-sum, test-are}
+use Rattle.tables.specs.FrameLaws.{framed-told, lengths-count, test-are, lengths-fit}
 use Rattle.tables.specs.Kinds.{passes}
 use Rattle.tables.specs.Walk.{lengthsAt, inOrder, allOf}
 use Rattle.tables.specs.declared.bytes.Asked.{Asked}
@@ -101,9 +101,6 @@ module _ (at most : ℕ) (b : List ℕ) (is : framed at most b ≡ true) (words 
       let f = framed-told at most b is in
       sizes-from 1 (partOf b (at + 1) (commandsAt at)) (omega arith) (omega (arith, part-length b (at + 1) (commandsAt at) (omega (arith, f .size))))
 
-  pub words-fit : wordsAt at most + sum (lengthsAt b at 1) ≤ length b
-  words-fit = let f = framed-told at most b is in omega (arith, lengths-sum at most b f words, f .size, f .few)
-
   test-is : table at most .test b ≡ ordered at most b && allWords at most b && allCommands at most b
   unfolding passes
   test-is =
@@ -114,7 +111,7 @@ module _ (at most : ℕ) (b : List ℕ) (is : framed at most b ≡ true) (words 
       let s : sum ls ≡ wordsEnd at most b - wordsAt at most = omega arith in
       let n : length ls ≡ commandsAt at + byteAt b at - commandsAt at = omega (arith, lengths-count at most b f words) in
       test-are at most b is words
-      ∙ good-is [] ls os ws lengths-sizes (omega (arith, length-drop (wordsAt at most) b, words-fit))
+      ∙ good-is [] ls os ws lengths-sizes (omega (arith, length-drop (wordsAt at most) b, lengths-fit at most b f words))
       (omega (arith, length-drop (commandsAt at) b, f .size, f .few, lengths-count at most b f words))
       ∙ ap (λ (i : ℕ). inOrder [] ls ws && allOf isWord (take i ws) && allOf (λ c. leb c lastCommand) (take (length ls) os)) s
       ∙ ap (λ (i : ℕ). inOrder [] ls ws && allWords at most b && allOf (λ c. leb c lastCommand) (take i os)) n

@@ -178,9 +178,9 @@ module _ {b : List ℕ} {q m c e : ℕ} (r : Risen b q m c e) where
 -- words of all lengths -----------------------------------------------------------------------------------------------------------------------------
 
 -- a longer word comes after a shorter one
-longer-after : (v w : List ℕ) → length v < length w → isAfter v w ≡ true
+pub after-longer : (v w : List ℕ) → length v < length w → isAfter v w ≡ true
 unfolding isAfter
-longer-after v w h = rw (lt-ltb (length v) (length w) h)
+after-longer v w h = rw (lt-ltb (length v) (length w) h)
 
 -- the first of these lengths is above m, if there is one
 abbrev Above : ℕ → List ℕ → Type 0
@@ -199,7 +199,7 @@ unfolding inOrder sum
 order-longer v [] ws a h = refl
 order-longer v (l ∷ ls) ws a h =
     let n : length (take l ws) ≡ l = length-take-le l ws (omega arith) in
-    rw (longer-after v (take l ws) (omega arith), longer-after [] (take l ws) (omega arith))
+    rw (after-longer v (take l ws) (omega arith), after-longer [] (take l ws) (omega arith))
 
 above-less : (k m : ℕ) (ls : List ℕ) → k ≤ m → Above m ls → Above k ls
 above-less k m [] h a = tt

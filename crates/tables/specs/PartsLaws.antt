@@ -2,13 +2,13 @@
 -- Assumes nothing.
 use mathlib.Core.Path.{_≡_, refl, sym, _∙_, ap}
 use mathlib.Core.Bool.{Bool, true, false, cond, _&&_}
-use mathlib.Core.List.{List, [], _∷_, _++_}
+use mathlib.Core.List.{List, [], _∷_, _++_, append-assoc}
 use Prim.Native.Nat.{ℕ, zero, suc, _+_, _-_, _*_, _<_, _≤_}
 use native.Mathlib.Nat.{zero-mul, mul-suc, suc-mul, mul-add, mul-comm, mul-le-mul-left}
 use native.Mathlib.Omega.{arith}
 use lib.Dec.{eqb, leb}
-use lib.ListN.{length, take, drop, length-append, length-drop, take-append-drop}
-use lib.Seq.{length-take-le, take-append-seam, take-append-le, drop-append-le, drop-at}
+use lib.ListN.{length, take, drop, length-append, length-drop, getD}
+use lib.Seq.{length-take-le, take-append-seam, take-append-le, drop-append-le, drop-at, take-all, take-add, drop-drop}
 use borrow.Author.Tests.{eqb-true, leb-true, eqb-false, eq-eqb, ne-eqb, le-leb}
 use Rattle.words.specs.Words.{Row}
 use Rattle.fields.specs.BoolLaws.{and-both, and-of}
@@ -28,21 +28,27 @@ cut-lengths (l ∷ ls) cs ws h =
     let e : length (take l ws) ≡ l = length-take-le l ws (omega arith) in
     ap (λ x. x ∷ lengthsOf (cut ls (drop 1 cs) (drop l ws))) e ∙ ap (λ x. l ∷ x) (cut-lengths ls (drop 1 cs) (drop l ws) (omega (arith, length-drop l ws)))
 
-pub cut-commands : (ls cs ws : List ℕ) → length ls ≡ length cs → commandsOf (cut ls cs ws) ≡ cs
+-- the commands and the words of rows that are cut out of longer bytes, and of as many
+pub commands-taken : (ls os ws : List ℕ) → length ls ≤ length os → commandsOf (cut ls os ws) ≡ take (length ls) os
 unfolding cut commandsOf
-cut-commands [] [] ws h = refl
-cut-commands [] (c ∷ cs) ws h = absurd (omega arith)
-cut-commands (l ∷ ls) [] ws h = absurd (omega arith)
-cut-commands (l ∷ ls) (c ∷ cs) ws h = ap (λ x. c ∷ x) (cut-commands ls cs (drop l ws) (omega arith))
+commands-taken [] os ws h = refl
+commands-taken (l ∷ ls) [] ws h = absurd (omega arith)
+commands-taken (l ∷ ls) (o ∷ os) ws h = ap (λ v. o ∷ v) (commands-taken ls os (drop l ws) (omega arith))
+
+pub cut-commands : (ls cs ws : List ℕ) → length ls ≡ length cs → commandsOf (cut ls cs ws) ≡ cs
+cut-commands ls cs ws h = commands-taken ls cs ws (omega arith) ∙ take-all (length ls) cs (omega arith)
 
 pub empty : (ws : List ℕ) → length ws ≡ 0 → [] ≡ ws
 empty [] h = refl
 empty (w ∷ ws) h = absurd (omega arith)
 
-pub cut-words : (ls cs ws : List ℕ) → sum ls ≡ length ws → wordsOf (cut ls cs ws) ≡ ws
+pub words-taken : (ls os ws : List ℕ) → wordsOf (cut ls os ws) ≡ take (sum ls) ws
 unfolding cut wordsOf sum
-cut-words [] cs ws h = empty ws (sym h)
-cut-words (l ∷ ls) cs ws h = ap (λ x. take l ws ++ x) (cut-words ls (drop 1 cs) (drop l ws) (omega (arith, length-drop l ws))) ∙ take-append-drop l ws
+words-taken [] os ws = refl
+words-taken (l ∷ ls) os ws = ap (λ v. take l ws ++ v) (words-taken ls (drop 1 os) (drop l ws)) ∙ sym (take-add l (sum ls) ws)
+
+pub cut-words : (ls cs ws : List ℕ) → sum ls ≡ length ws → wordsOf (cut ls cs ws) ≡ ws
+cut-words ls cs ws h = words-taken ls cs ws ∙ take-all (sum ls) ws (omega arith)
 
 -- what stands behind the commands and the words is not looked at
 pub cut-append : (ls os us ws vs : List ℕ) → length ls ≤ length os → sum ls ≤ length ws → cut ls (os ++ us) (ws ++ vs) ≡ cut ls os ws
@@ -224,3 +230,28 @@ sum-most m t (l ∷ ls) h =
     let r = sum-most l t ls (asc-rest m (suc t) l ls h) in
     let e : t * suc (length ls) ≡ t * length ls + t = mul-suc t (length ls) in
     omega arith
+
+-- in two parts
+
+pub cut-two : (xs ys os ws : List ℕ) → cut (xs ++ ys) os ws ≡ cut xs os ws ++ cut ys (drop (length xs) os) (drop (sum xs) ws)
+unfolding cut sum
+cut-two [] ys os ws = refl
+cut-two (x ∷ xs) ys os ws =
+    let r : Row = record { word = take x ws; command = getD os 0 0 } in
+    let n : 1 + length xs ≡ suc (length xs) = omega arith in
+    ap (λ rs. r ∷ rs) (cut-two xs ys (drop 1 os) (drop x ws))
+    ∙ ap (λ v. r ∷ (cut xs (drop 1 os) (drop x ws) ++ cut ys v (drop (sum xs) (drop x ws)))) (drop-drop (length xs) 1 os ∙ ap (λ (k : ℕ). drop k os) n)
+    ∙ ap (λ v. r ∷ (cut xs (drop 1 os) (drop x ws) ++ cut ys (drop (suc (length xs)) os) v)) (drop-drop (sum xs) x ws)
+
+pub from-append : (m : ℕ) (xs ys : List ℕ) → lengthsFrom m (xs ++ ys) ≡ lengthsFrom m xs ++ lengthsFrom (m + length xs) ys
+unfolding lengthsFrom
+from-append m [] ys = let z : m ≡ m + 0 = omega arith in ap (λ (n : ℕ). lengthsFrom n ys) z
+from-append m (x ∷ xs) ys =
+    let e : suc m + length xs ≡ m + suc (length xs) = omega arith in
+    ap (λ v. repeated x m ++ v) (from-append (suc m) xs ys ∙ ap (λ (n : ℕ). lengthsFrom (suc m) xs ++ lengthsFrom n ys) e)
+    ∙ sym (append-assoc (repeated x m) (lengthsFrom (suc m) xs) (lengthsFrom (m + suc (length xs)) ys))
+
+pub repeated-two : (j k m : ℕ) → repeated (j + k) m ≡ repeated j m ++ repeated k m
+unfolding repeated
+repeated-two zero k m = let z : 0 + k ≡ k = omega arith in ap (λ (n : ℕ). repeated n m) z
+repeated-two (suc j) k m = let e : suc j + k ≡ suc (j + k) = omega arith in ap (λ (n : ℕ). repeated n m) e ∙ ap (λ v. m ∷ v) (repeated-two j k m)

@@ -4,7 +4,8 @@ use Prim.Native.Nat.{_+_}
 use native.Mathlib.Omega.{arith}
 use lib.ListN.{length}
 use Rattle.tables.specs.FrameLaws.{framed-told}
-use Rattle.placing.specs.PlaceLaws.{group-fits}
+use Rattle.tables.specs.FrameLaws.{framed-told}
+use Rattle.tables.specs.FindLaws.{group-bytes}
 use Rattle.placing.specs.InsertLaws.{spot-few, spot-fits, spot-more, located}
 use borrow.Author.Needs.{needs}
 use Rattle.placing.proofs.insert.spot_of.Statement.{statement}
@@ -34,7 +35,7 @@ rank-requires c κs =
     let start = c .before .before .before .before in
     let a = start .args in
     let p = start .pre in
-    let f = group-fits (a .at) (a .most) (a .b .now) (a .w .now) (p .framed) (p .some) (p .one) (p .short) in
+    let f = group-bytes (a .at) (a .most) (a .b .now) (a .w .now) (p .one) (p .short) (framed-told (a .at) (a .most) (a .b .now) (p .framed) .size) (p .framed) (p .some) in
     (p .short, (omega (arith, c .shared-slice-known3 .given (a .at + length (a .w .now))), omega (arith, c .before .start-of .ensures .1, f)))
 
 add-row : tie.Need-add-row

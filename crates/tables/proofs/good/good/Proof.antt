@@ -3,8 +3,8 @@
 use mathlib.Core.Path.{sym, _∙_}
 use native.Mathlib.Omega.{arith}
 use borrow.Author.Tests.{not-true, not-false}
-use Rattle.tables.specs.FrameLaws.{framed-told, test-unframed, test-empty}
-use Rattle.tables.specs.GoodLaws.{words-fit, test-unordered, words-end, test-commands, test-words}
+use Rattle.tables.specs.FrameLaws.{framed-told, test-unframed, test-empty, lengths-fit}
+use Rattle.tables.specs.GoodLaws.{test-unordered, words-end, test-commands, test-words}
 use borrow.Author.Needs.{needs}
 use Rattle.tables.proofs.good.good.Statement.{statement}
 use Rattle.tables.proofs.good.good.Tie as tie
@@ -83,7 +83,7 @@ all-words-requires c κs =
     let a = at-if1 .before .before .before .args in
     let is = sym (at-if1 .before .framed .ensures) ∙ not-false _ (at-if1 .if1 .left) in
     let e = words-end (a .at) (a .most) (a .b .now) is (omega arith) (at-ordered .ordered .result) (at-ordered .ordered .ensures) (c .before .before .if3 .left) in
-    (omega (arith, e), omega (arith, e, words-fit (a .at) (a .most) (a .b .now) is (omega arith)))
+    (omega (arith, e), omega (arith, e, lengths-fit (a .at) (a .most) (a .b .now) (framed-told (a .at) (a .most) (a .b .now) is) (omega arith)))
 
 returns-5 : tie.Need-returns-5
 returns-5 c =
