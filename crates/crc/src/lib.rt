@@ -1,22 +1,16 @@
-// CRC-32, a bit at a time. A report is summed part by part: start, then the bytes of each part, then the end.
+// CRC-32. A report is summed part by part: start, then the bytes of each part, then the end.
+mod bits;
+mod table;
+
+use bits::bytes_from;
+use table::by_eight;
+use table::table;
 ghost use mathlib.Core.Path.{_≡_};
 ghost use lib.Bits.{bitXor};
-ghost use Rattle.crc.specs.Crc.{crcBit, crcByte, crcFrom};
+ghost use Rattle.crc.specs.Crc.{crcFrom};
 
-fn bit(c: u64) -> u64
-    ensures { λ r. ⌜ r ≡ crcBit c ⌝ }
-{
-    if c % 2 == 1 {
-        return 0xEDB88320 ^ (c / 2);
-    }
-    c / 2
-}
-
-fn byte(c: u64, b: u8) -> u64
-    ensures { λ r. ⌜ r ≡ crcByte c b ⌝ }
-{
-    bit(bit(bit(bit(bit(bit(bit(bit((b as u64) ^ c))))))))
-}
+// How long a text is for which the table is made; that takes as long as some 350 bytes bit by bit.
+const LONG: usize = 1024;
 
 // What no byte has made of it.
 pub fn start() -> u64
@@ -29,13 +23,11 @@ pub fn start() -> u64
 pub fn more(c: u64, s: &[u8]) -> u64
     ensures { λ r. ⌜ r ≡ crcFrom c (now (s .entry)) ⌝ }
 {
-    let mut d = c;
-    let mut i: usize = 0;
-    while i < s.len() {
-        d = byte(d, s[i]);
-        i += 1;
+    if s.len() < LONG {
+        return bytes_from(c, s, 0);
     }
-    d
+    let t = table();
+    by_eight(c, s, &t)
 }
 
 // The number that stands for all of them.

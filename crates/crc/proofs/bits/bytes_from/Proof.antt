@@ -1,4 +1,4 @@
--- `crc::more` meets its contract.
+-- `bits::bytes_from` meets its contract.
 -- Assumes nothing.
 use Rattle.crc.specs.CrcLaws.{from-on, from-end}
 use Rattle.crc.specs.Crc.{crcFrom}
@@ -6,14 +6,14 @@ use lib.ListN.{length, drop}
 use Prim.Native.Nat.{_-_}
 use mathlib.Core.Path.{_≡_}
 use borrow.Author.Needs.{needs}
-use Rattle.crc.proofs.more.Statement.{statement}
-use Rattle.crc.proofs.more.Tie as tie
+use Rattle.crc.proofs.bits.bytes_from.Statement.{statement}
+use Rattle.crc.proofs.bits.bytes_from.Tie as tie
 
 abbrev Inv-loop : tie.InvT-loop
-Inv-loop c s d₀ i₀ d i = crcFrom d (drop i s) ≡ crcFrom c s
+Inv-loop c s at d₀ i₀ d i = crcFrom d (drop i s) ≡ crcFrom c (drop at s)
 
 abbrev μ-loop : tie.MeasureT-loop
-μ-loop c s d₀ i₀ d i = length s - i
+μ-loop c s at d₀ i₀ d i = length s - i
 
 loop-holds : tie.Need-loop-holds Inv-loop μ-loop
 loop-holds c = search needs
@@ -38,8 +38,8 @@ loop-again c =
 returns : tie.Need-returns Inv-loop μ-loop
 returns c = cc (from-end (c .before .loop .d) (c .before .before .before .args .s .now) (c .before .loop .i) (search needs))
 
-pub more-spec : {M : Type 1} → statement M
-more-spec =
+pub bytes-from-spec : {M : Type 1} → statement M
+bytes-from-spec =
     tie.close
     (tie.spec
     Inv-loop

@@ -1,9 +1,9 @@
--- `crc::byte` meets its contract.
+-- `bits::byte` meets its contract.
 -- Assumes nothing.
 use Rattle.crc.specs.Crc.{crcByte}
 use borrow.Author.Needs.{needs}
-use Rattle.crc.proofs.byte.Statement.{statement}
-use Rattle.crc.proofs.byte.Tie as tie
+use Rattle.crc.proofs.bits.byte.Statement.{statement}
+use Rattle.crc.proofs.bits.byte.Tie as tie
 
 bit-requires : tie.Need-bit-requires
 bit-requires c κs = search needs

@@ -1,9 +1,9 @@
--- `crc::bit` meets its contract.
+-- `bits::bit` meets its contract.
 -- Assumes nothing.
 use Rattle.crc.specs.CrcLaws.{bit-odd, bit-even}
 use borrow.Author.Needs.{needs}
-use Rattle.crc.proofs.bit.Statement.{statement}
-use Rattle.crc.proofs.bit.Tie as tie
+use Rattle.crc.proofs.bits.bit.Statement.{statement}
+use Rattle.crc.proofs.bits.bit.Tie as tie
 
 returns : tie.Need-returns
 returns c = search (needs, bit-odd)

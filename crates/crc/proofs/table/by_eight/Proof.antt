@@ -1,0 +1,64 @@
+-- `table::by_eight` meets its contract.
+-- Assumes nothing.
+use Rattle.crc.specs.Crc.{crcFrom}
+use Rattle.crc.specs.TableLaws.{from-eight}
+use lib.ListN.{length, drop}
+use Prim.Native.Nat.{_≤_, _-_}
+use mathlib.Core.Path.{_≡_}
+use native.Mathlib.Omega.{arith}
+use borrow.Author.Needs.{needs}
+use Rattle.crc.proofs.table.by_eight.Statement.{statement}
+use Rattle.crc.proofs.table.by_eight.Tie as tie
+
+abbrev Inv-loop : tie.InvT-loop
+Inv-loop c s t d₀ i₀ d i = (i ≤ length s) × (crcFrom d (drop i s) ≡ crcFrom c s)
+
+abbrev μ-loop : tie.MeasureT-loop
+μ-loop c s t d₀ i₀ d i = length s - i
+
+loop-holds : tie.Need-loop-holds Inv-loop μ-loop
+loop-holds c = search needs
+
+sub-loop : tie.Need-sub-loop Inv-loop μ-loop
+sub-loop c = search needs
+
+low-eight-requires : tie.Need-low-eight-requires Inv-loop μ-loop
+low-eight-requires c κs = search needs
+
+eight-requires : tie.Need-eight-requires Inv-loop μ-loop
+eight-requires c κs = search needs
+
+add-i : tie.Need-add-i Inv-loop μ-loop
+add-i c = search needs
+
+loop-less : tie.Need-loop-less Inv-loop μ-loop
+loop-less c = search needs
+
+loop-again : tie.Need-loop-again Inv-loop μ-loop
+loop-again c =
+    let at-loop = c .before .before .before in
+    let s = at-loop .before .before .args .s .now in
+    let known = at-loop .before .shared-slice-known .given in
+    (search needs, cc (from-eight (at-loop .loop .d) s (at-loop .loop .i) (search needs) (λ j h. omega (arith, known j))))
+
+bytes-from-requires : tie.Need-bytes-from-requires Inv-loop μ-loop
+bytes-from-requires c κs = search needs
+
+returns : tie.Need-returns Inv-loop μ-loop
+returns c = search needs
+
+pub by-eight-spec : {M : Type 1} → statement M
+by-eight-spec =
+    tie.close
+    (tie.spec
+    Inv-loop
+    μ-loop
+    loop-holds
+    sub-loop
+    low-eight-requires
+    eight-requires
+    add-i
+    loop-less
+    loop-again
+    bytes-from-requires
+    returns)
