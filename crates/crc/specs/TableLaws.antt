@@ -115,17 +115,16 @@ from-number c (b ∷ bs) h =
     ∙ ap (λ x. crcByte x 0) (sym (xor-assoc (numberOf bs * 256) b c) ∙ ap (λ x. bitXor x c) (xor-above (numberOf bs) b (h 0 (omega arith)))))
 
 -- eight bytes of a text
-pub from-eight : (d : ℕ) (s : List ℕ) (i : ℕ) → i + 8 ≤ length s → ((j : ℕ) → j < length s → getD s j 0 < 256) →
+pub from-eight : (d : ℕ) (s : List ℕ) (i : ℕ) → i + 8 ≤ length s → ((j : ℕ) → getD s j 0 < 256) →
     crcFrom d (drop i s) ≡ crcFrom (passed 8 (bitXor (numberOf (partOf s i (i + 8))) d)) (drop (i + 8) s)
 from-eight d s i h b =
     let p = partOf s i (i + 8) in
     let n : i + 8 - i ≡ 8 = omega arith in
     let l : length p ≡ 8 = part-length s i (i + 8) h ∙ n in
-    let within : (j : ℕ) → j < length p → getD p j 0 < 256 = λ j k.
-    rw (getD-take (i + 8 - i) (drop i s) j 0 (omega arith), getD-drop i s j 0) (b (i + j) (omega arith)) in
-    ap (crcFrom d) (sym (take-append-drop (i + 8 - i) (drop i s)) ∙ ap (λ n. p ++ n) (drop-drop (i + 8 - i) i s))
+    let within : (j : ℕ) → j < length p → getD p j 0 < 256 = λ j k. rw (getD-take (i + 8 - i) (drop i s) j 0 (omega arith), getD-drop i s j 0) (b (i + j)) in
+    ap (crcFrom d) (sym (take-append-drop (i + 8 - i) (drop i s)) ∙ ap (λ r. p ++ r) (drop-drop (i + 8 - i) i s))
     ∙ from-append d p (drop (i + (i + 8 - i)) s)
-    ∙ ap₂ crcFrom (from-number d p within ∙ ap (λ n. passed n (bitXor (numberOf p) d)) l) (ap (λ n. drop (i + n) s) n)
+    ∙ ap₂ crcFrom (from-number d p within ∙ ap (λ k. passed k (bitXor (numberOf p) d)) l) (ap (λ k. drop (i + k) s) n)
 
 -- the entries of the table ---------------------------------------------------------------------------------------------------
 

@@ -9,8 +9,8 @@ ghost use mathlib.Core.Path.{_≡_};
 ghost use lib.Bits.{bitXor};
 ghost use Rattle.crc.specs.Crc.{crcFrom};
 
-// How long a text is for which the table is made; that takes as long as some 350 bytes bit by bit.
-const LONG: usize = 1024;
+// How long a text must be for the table to be made, which takes as long as some 300 bytes bit by bit.
+const LONG: usize = 512;
 
 // What no byte has made of it.
 pub fn start() -> u64

@@ -5,7 +5,6 @@ use Rattle.crc.specs.TableLaws.{from-eight}
 use lib.ListN.{length, drop}
 use Prim.Native.Nat.{_≤_, _-_}
 use mathlib.Core.Path.{_≡_}
-use native.Mathlib.Omega.{arith}
 use borrow.Author.Needs.{needs}
 use Rattle.crc.proofs.table.by_eight.Statement.{statement}
 use Rattle.crc.proofs.table.by_eight.Tie as tie
@@ -37,9 +36,8 @@ loop-less c = search needs
 loop-again : tie.Need-loop-again Inv-loop μ-loop
 loop-again c =
     let at-loop = c .before .before .before in
-    let s = at-loop .before .before .args .s .now in
     let known = at-loop .before .shared-slice-known .given in
-    (search needs, cc (from-eight (at-loop .loop .d) s (at-loop .loop .i) (search needs) (λ j h. omega (arith, known j))))
+    (search needs, cc (from-eight (at-loop .loop .d) (at-loop .before .before .args .s .now) (at-loop .loop .i) (search needs) (λ j. search (needs, known j))))
 
 bytes-from-requires : tie.Need-bytes-from-requires Inv-loop μ-loop
 bytes-from-requires c κs = search needs

@@ -34,18 +34,9 @@ entry-requires-8 c κs = search needs
 
 returns : tie.Need-returns
 returns c =
-    let at-start = c .before .before .before .before .before .before .before .before in
-    let x = at-start .args .x in
-    let x1 = x / 256 in
-    let x2 = x1 / 256 in
-    let x3 = x2 / 256 in
-    let x4 = x3 / 256 in
-    let x5 = x4 / 256 in
-    let x6 = x5 / 256 in
-    let x7 = x6 / 256 in
-    let last : x7 % 256 ≡ x7 = omega arith in
-    cc
-    (passed-parts 7 x, passed-parts 6 x1, passed-parts 5 x2, passed-parts 4 x3, passed-parts 3 x4, passed-parts 2 x5, passed-parts 1 x6)
+    let x = c .before .before .before .before .before .before .before .before .args .x in
+    let last : x / 256 / 256 / 256 / 256 / 256 / 256 / 256 % 256 ≡ x / 256 / 256 / 256 / 256 / 256 / 256 / 256 = omega arith in
+    rw (passed-parts 7, passed-parts 6, passed-parts 5, passed-parts 4, passed-parts 3, passed-parts 2, passed-parts 1) (cc)
 
 pub eight-spec : {M : Type 1} → statement M
 eight-spec =
