@@ -1,5 +1,5 @@
-//! All words in which the crate says actions and refusals. The console's programs have the same words (crates/wording, crates/reasons),
-//! and tests/reports.rs holds the two to one another.
+//! All words in which the crate says actions and refusals. The console's programs have the same words (crates/phrases, crates/wording,
+//! crates/reasons), and tests/reports.rs holds the two to one another.
 //!
 //! Two actions never have the same words: names stand in quotes, and every part of the record has a word or a number of its own,
 //! or is known by having none.

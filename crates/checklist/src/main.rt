@@ -16,7 +16,7 @@ use sheet::sheet::start;
 use sheet::sheet::up_to;
 use sheet::tally::put_tally;
 use spellings_part::put_spellings;
-use wording::put::put_text;
+use texts::put::put_text;
 
 // The line that is given; one that does not fit counts as long as the buffer.
 fn given(line: &mut [u8]) -> usize {

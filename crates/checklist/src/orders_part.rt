@@ -7,11 +7,11 @@ use orders::told::put_told;
 use sheet::sheet::Report;
 use sheet::sheet::flush_full;
 use sheet::sheet::up_to;
+use texts::put::put_byte;
+use texts::put::put_decimal;
+use texts::put::put_quoted;
+use texts::put::put_text;
 use utf8::utf8::is_utf8;
-use wording::put::put_byte;
-use wording::put::put_decimal;
-use wording::put::put_quoted;
-use wording::put::put_text;
 
 // A line with five prefixes may gain five spaces.
 const LONGEST: usize = LINE - 5;

@@ -8,9 +8,9 @@ use spellings::names;
 use spellings::row_at;
 use spellings::spellings;
 use spellings::word_of;
-use wording::put::put_byte;
-use wording::put::put_decimal;
-use wording::put::put_text;
+use texts::put::put_byte;
+use texts::put::put_decimal;
+use texts::put::put_text;
 use words::words::Named;
 use words::words::lookup;
 

@@ -3,8 +3,8 @@ use super::order::is_in;
 use super::order::weight;
 use super::prefixes::Prefixes;
 use scan::part::part;
-use wording::put::put_byte;
-use wording::put::put_text;
+use texts::put::put_byte;
+use texts::put::put_text;
 
 // The kinds that were seen, and the prefixes that are kept, by their weights.
 struct Keeping {

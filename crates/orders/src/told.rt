@@ -11,9 +11,9 @@ use session::lent::fresh_in;
 use session::lent::line_in;
 use sheet::report::put_number;
 use sheet::report::put_reply;
-use wording::put::put_byte;
-use wording::put::put_quoted;
-use wording::put::put_text;
+use texts::put::put_byte;
+use texts::put::put_quoted;
+use texts::put::put_text;
 
 // Where an order is told up to, and whether it agrees.
 pub struct Told {

@@ -8,11 +8,11 @@ use limits::refusal::Numbered;
 use limits::refusal::Refusal;
 use limits::refusal::number;
 use limits::refusal::refusal_of;
-use wording::put::put_decimal;
-use wording::put::put_quoted;
-use wording::put::put_text;
-use wording::record::name_of;
-ghost use Rattle.wording.specs.Behind.{Behind};
+use phrases::number::name_of;
+use texts::put::put_decimal;
+use texts::put::put_quoted;
+use texts::put::put_text;
+ghost use Rattle.texts.specs.Behind.{Behind};
 
 // Words about a limit.
 fn put_limit(out: &mut [u8], at: usize, before: &[u8], limit: u64, behind: &[u8]) -> usize

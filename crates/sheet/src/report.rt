@@ -2,13 +2,13 @@
 use reasons::put_refusal;
 use reasons::put_refused;
 use run::reply::LineReply;
-use wording::put::put_byte;
-use wording::put::put_decimal;
-use wording::put::put_hex;
-use wording::put::put_quoted;
-use wording::put::put_text;
+use texts::put::put_byte;
+use texts::put::put_decimal;
+use texts::put::put_hex;
+use texts::put::put_quoted;
+use texts::put::put_text;
 use wording::record::put_record;
-ghost use Rattle.wording.specs.Behind.{Behind};
+ghost use Rattle.texts.specs.Behind.{Behind};
 
 // A number and a space.
 pub fn put_number(out: &mut [u8], at: usize, n: u64) -> usize

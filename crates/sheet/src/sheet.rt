@@ -14,7 +14,7 @@ use scan::classes::classes;
 use scan::part::part;
 use scan::run::run_end;
 use session::lent::line_in;
-use wording::put::put_text;
+use texts::put::put_text;
 ghost use Prim.Native.Nat.{_≤_};
 ghost use lib.ListN.{length};
 

@@ -6,14 +6,14 @@ use limits::refusal::place;
 use limits::refusal::refusal_of;
 use run::reply::LineReply;
 use scan::part::byte_at;
-use wording::put::put_byte;
-use wording::put::put_decimal;
-use wording::put::put_text;
+use texts::put::put_byte;
+use texts::put::put_decimal;
+use texts::put::put_text;
 ghost use mathlib.Core.Path.{_≡_};
 ghost use Prim.Native.Nat.{_+_, _<_};
 ghost use lib.ListN.{length};
 ghost use Rattle.limits.specs.Refusals.{refusals};
-ghost use Rattle.wording.specs.Behind.{Behind};
+ghost use Rattle.texts.specs.Behind.{Behind};
 ghost use Rattle.sheet.specs.Tally.{noLines, oneMore, entryOf, withAccepted, withLine, withRefused};
 
 // How many counts of refused lines there are.

@@ -1,3 +1,2 @@
 // The words in which actions are told to the people at the console: those of bindings/rust/src/words.rs.
-pub mod put;
 pub mod record;

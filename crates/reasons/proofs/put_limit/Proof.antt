@@ -1,6 +1,6 @@
 -- `reasons::put_limit` meets its contract.
 -- Assumes nothing.
-use Rattle.wording.specs.BehindLaws.{behind-then}
+use Rattle.texts.specs.BehindLaws.{behind-then}
 use borrow.Author.Needs.{needs}
 use Rattle.reasons.proofs.put_limit.Statement.{statement}
 use Rattle.reasons.proofs.put_limit.Tie as tie

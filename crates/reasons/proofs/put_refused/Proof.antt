@@ -1,6 +1,6 @@
 -- `reasons::put_refused` meets its contract.
 -- Assumes nothing.
-use Rattle.wording.specs.BehindLaws.{behind-then}
+use Rattle.texts.specs.BehindLaws.{behind-then}
 use borrow.Author.Needs.{needs}
 use Rattle.reasons.proofs.put_refused.Statement.{statement}
 use Rattle.reasons.proofs.put_refused.Tie as tie

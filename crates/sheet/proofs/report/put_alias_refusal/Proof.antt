@@ -1,6 +1,6 @@
 -- `sheet::report::put_alias_refusal` meets its contract.
 -- Assumes nothing.
-use Rattle.wording.specs.BehindLaws.{behind-then}
+use Rattle.texts.specs.BehindLaws.{behind-then}
 use borrow.Author.Needs.{needs}
 use Rattle.sheet.proofs.report.put_alias_refusal.Statement.{statement}
 use Rattle.sheet.proofs.report.put_alias_refusal.Tie as tie

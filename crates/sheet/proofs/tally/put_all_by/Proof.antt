@@ -3,8 +3,8 @@
 use Prim.Native.Nat.{_-_, _≤_}
 use native.Mathlib.Omega.{arith}
 use borrow.Author.Needs.{needs}
-use Rattle.wording.specs.Behind.{Behind}
-use Rattle.wording.specs.BehindLaws.{behind-then, behind-none}
+use Rattle.texts.specs.Behind.{Behind}
+use Rattle.texts.specs.BehindLaws.{behind-then, behind-none}
 use Rattle.sheet.proofs.tally.put_all_by.Statement.{statement}
 use Rattle.sheet.proofs.tally.put_all_by.Tie as tie
 

@@ -1,6 +1,6 @@
 -- `sheet::tally::put_others` meets its contract.
 -- Assumes nothing.
-use Rattle.wording.specs.BehindLaws.{behind-then}
+use Rattle.texts.specs.BehindLaws.{behind-then}
 use borrow.Author.Needs.{needs}
 use Rattle.sheet.proofs.tally.put_others.Statement.{statement}
 use Rattle.sheet.proofs.tally.put_others.Tie as tie

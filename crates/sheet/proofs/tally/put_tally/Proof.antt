@@ -1,6 +1,6 @@
 -- `sheet::tally::put_tally` meets its contract.
 -- Assumes nothing.
-use Rattle.wording.specs.BehindLaws.{behind-then}
+use Rattle.texts.specs.BehindLaws.{behind-then}
 use borrow.Author.Needs.{needs}
 use Rattle.sheet.proofs.tally.put_tally.Statement.{statement}
 use Rattle.sheet.proofs.tally.put_tally.Tie as tie

@@ -1,6 +1,6 @@
 -- `wording::record::action` meets its contract.
 -- Assumes nothing.
-use Rattle.wording.specs.BehindLaws.{behind-then, behind-none}
+use Rattle.texts.specs.BehindLaws.{behind-then, behind-none}
 use borrow.Author.Needs.{needs}
 use Rattle.wording.proofs.record.action.Statement.{statement}
 use Rattle.wording.proofs.record.action.Tie as tie

@@ -1,7 +1,7 @@
 -- `wording::record::close` meets its contract.
 -- Assumes nothing.
 use borrow.Author.Needs.{needs}
-use Rattle.wording.specs.BehindLaws.{behind-then}
+use Rattle.texts.specs.BehindLaws.{behind-then}
 use Rattle.wording.proofs.record.close.Statement.{statement}
 use Rattle.wording.proofs.record.close.Tie as tie
 

@@ -1,6 +1,6 @@
 -- `wording::record::opened` meets its contract.
 -- Assumes nothing.
-use Rattle.wording.specs.BehindLaws.{behind-then}
+use Rattle.texts.specs.BehindLaws.{behind-then}
 use borrow.Author.Needs.{needs}
 use Rattle.wording.proofs.record.opened.Statement.{statement}
 use Rattle.wording.proofs.record.opened.Tie as tie

@@ -1,6 +1,6 @@
 -- `wording::record::put_record` meets its contract.
 -- Assumes nothing.
-use Rattle.wording.specs.BehindLaws.{behind-again}
+use Rattle.texts.specs.BehindLaws.{behind-again}
 use borrow.Author.Needs.{needs}
 use Rattle.wording.proofs.record.put_record.Statement.{statement}
 use Rattle.wording.proofs.record.put_record.Tie as tie

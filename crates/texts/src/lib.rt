@@ -1,0 +1,3 @@
+// Text written into a lent buffer.
+pub mod put;
+pub mod shown;
