@@ -1,0 +1,2 @@
+pub mod Spot
+pub mod SpotLaws

@@ -1,0 +1,46 @@
+// The place in a line that its refusal is about.
+use super::bytes::byte_spot;
+use super::places::text_spot;
+use super::spot::Spot;
+use super::spot::nowhere_in;
+use super::spot::plus;
+use super::spot::spot_in;
+use super::text::Text;
+use super::text::last_text;
+use limits::refusal::Numbered;
+use limits::refusal::Refusal;
+use limits::refusal::refusal_of;
+use scan::part::part;
+ghost use lib.ListN.{length};
+ghost use Rattle.spots.specs.Spot.{Placed};
+
+// The place in the text of the last reading.
+fn read_spot(session: &[u8], line: &[u8], x: Refusal, readings: u64) -> Spot
+    ensures { λ r. ⌜ Placed (length (now (line .entry))) r ⌝ }
+{
+    let Text::At(from, to) = last_text(session, line, readings) else {
+        return nowhere_in(line);
+    };
+    let p = text_spot(session, part(line, from, to), x);
+    spot_in(line, plus(from, p.start), plus(from, p.stop))
+}
+
+// The place in a line by its refusal: before any reading only 2 has one.
+fn refusal_spot(session: &[u8], line: &[u8], x: Refusal, readings: u64) -> Spot
+    ensures { λ r. ⌜ Placed (length (now (line .entry))) r ⌝ }
+{
+    match x {
+        Refusal::NotUtf8 => byte_spot(line),
+        _ => read_spot(session, line, x, readings),
+    }
+}
+
+// The place in a line that was run on a session and refused so, in so many readings.
+pub fn spot_of(session: &[u8], line: &[u8], refusal: u64, readings: u64) -> Spot
+    ensures { λ r. ⌜ Placed (length (now (line .entry))) r ⌝ }
+{
+    match refusal_of(refusal) {
+        Numbered::Refused(x) => refusal_spot(session, line, x, readings),
+        _ => nowhere_in(line),
+    }
+}
