@@ -6,8 +6,8 @@ use crate::flags::{CloseFlags, OpenFlags, WriteFlags};
 
 /// What a line does, on windows or on tabs.
 ///
-/// [`Action::from_record`] reads it, and [`Display`](std::fmt::Display) says it in plain words. A count that is left to the
-/// context is not said, and neither is a flag that is not set.
+/// [`Action::from_record`] reads it, and [`Display`](std::fmt::Display) says it in plain words. Not said are a flag that is
+/// not set, a size or a number of steps that is left to the context, and that a window is split once.
 ///
 /// ```
 /// use pagyolint::{Action, Axis, Count, OpenFlags, OpenTarget, Side, WindowAction};
@@ -16,7 +16,7 @@ use crate::flags::{CloseFlags, OpenFlags, WriteFlags};
 /// let target = OpenTarget::Name("a b".into());
 /// let split = WindowAction::Split(target, OpenFlags::NONE, Axis::Vertical, Side::Previous, Count::Exact(3));
 /// assert_eq!(action, Action::Window(split));
-/// assert_eq!(action.to_string(), r#"split "a b", vertical, before, 3"#);
+/// assert_eq!(action.to_string(), r#"split "a b", on the left, 3 times"#);
 /// ```
 #[derive(Clone, Debug, PartialEq, Eq, Hash)]
 pub enum Action {

@@ -50,7 +50,7 @@ fn table(bytes: &[u8], at: usize, room: usize) -> [&[u8]; 3] {
 /// session.add_alias("v", Command::Vertical)?;
 /// let answer = session.input_cmd("v 3sp a");
 /// assert_eq!(answer.readings, 2);
-/// assert_eq!(answer.outcome?.to_string(), r#"open "a", vertical, before, 3"#);
+/// assert_eq!(answer.outcome?.to_string(), r#"open "a", on the left, width 3"#);
 /// assert_eq!(session.last_command(), "v 3sp a");
 /// # Ok::<(), Box<dyn std::error::Error>>(())
 /// ```

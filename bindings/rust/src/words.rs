@@ -93,15 +93,16 @@ impl Display for WindowAction {
                 write!(f, "close {target}{}", close_flags(*flags))
             }
             WindowAction::Resize(focus, axis, change) => {
-                write!(f, "resize window {focus}, {axis}, {change}")
+                write!(f, "resize window {focus}, {} {change}", length(*axis))
             }
             WindowAction::Open(target, flags, axis, side, count) => {
-                let (flags, count) = (open_flags(*flags), count_behind(", ", *count));
-                write!(f, "open {target}{flags}, {axis}, {side}{count}")
+                let (flags, place) = (open_flags(*flags), place(*axis, *side));
+                let size = count_behind(&format!(", {} ", length(*axis)), *count);
+                write!(f, "open {target}{flags}, {place}{size}")
             }
             WindowAction::Split(target, flags, axis, side, count) => {
-                let (flags, count) = (open_flags(*flags), count_behind(", ", *count));
-                write!(f, "split {target}{flags}, {axis}, {side}{count}")
+                let (flags, place) = (open_flags(*flags), place(*axis, *side));
+                write!(f, "split {target}{flags}, {place}{}", times(*count))
             }
             WindowAction::Switch(target, flags) => {
                 write!(f, "switch to {target}{}", open_flags(*flags))
@@ -199,24 +200,6 @@ impl Display for MoveDir1D {
     }
 }
 
-impl Display for Side {
-    fn fmt(&self, f: &mut Formatter<'_>) -> Result {
-        f.write_str(match self {
-            Side::Next => "after",
-            Side::Previous => "before",
-        })
-    }
-}
-
-impl Display for Axis {
-    fn fmt(&self, f: &mut Formatter<'_>) -> Result {
-        f.write_str(match self {
-            Axis::Horizontal => "horizontal",
-            Axis::Vertical => "vertical",
-        })
-    }
-}
-
 impl Display for SizeChange {
     fn fmt(&self, f: &mut Formatter<'_>) -> Result {
         match self {
@@ -247,6 +230,33 @@ impl Display for Quoted<'_> {
         }
 
         f.write_str("\"")
+    }
+}
+
+/// Where a window is opened: a horizontal one above or below this one, a vertical one beside it.
+fn place(axis: Axis, side: Side) -> &'static str {
+    match (axis, side) {
+        (Axis::Horizontal, Side::Previous) => "above",
+        (Axis::Horizontal, Side::Next) => "below",
+        (Axis::Vertical, Side::Previous) => "on the left",
+        (Axis::Vertical, Side::Next) => "on the right",
+    }
+}
+
+/// What a size along an axis is.
+fn length(axis: Axis) -> &'static str {
+    match axis {
+        Axis::Horizontal => "height",
+        Axis::Vertical => "width",
+    }
+}
+
+/// How often a window is split; nothing where it is once.
+fn times(count: Count) -> String {
+    match count {
+        Count::Contextual => ", as often as the context says".to_owned(),
+        Count::Exact(1) => String::new(),
+        Count::Exact(number) => format!(", {number} times"),
     }
 }
 

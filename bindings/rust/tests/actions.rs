@@ -73,17 +73,17 @@ fn resize() {
     read(
         &[2, 0, 0, 0, 5],
         resize(FocusChange::Current, Axis::Horizontal, SizeChange::Exact(5)),
-        "resize window current, horizontal, to 5",
+        "resize window current, height to 5",
     );
     read(
         &[2, 3, 1, 1, 0x80, 1],
         resize(FIRST, Axis::Vertical, SizeChange::Increase(128)),
-        "resize window first, vertical, by +128",
+        "resize window first, width by +128",
     );
     read(
         &[2, 4, 1, 2, 127],
         resize(LAST, Axis::Vertical, SizeChange::Decrease(127)),
-        "resize window last, vertical, by -127",
+        "resize window last, width by -127",
     );
 }
 
@@ -101,7 +101,7 @@ fn open() {
             Side::Previous,
             Count::Exact(3),
         ),
-        r#"open "a b", vertical, before, 3"#,
+        r#"open "a b", on the left, width 3"#,
     );
     read(
         &[3, 2, 3, 0, 0, 0],
@@ -112,7 +112,7 @@ fn open() {
             Side::Next,
             Count::Contextual,
         ),
-        "open unnamed, force, read-only, horizontal, after",
+        "open unnamed, force, read-only, below",
     );
 }
 
@@ -130,7 +130,7 @@ fn split() {
             Side::Previous,
             Count::Exact(3),
         ),
-        r#"split "a b", vertical, before, 3"#,
+        r#"split "a b", on the left, 3 times"#,
     );
     read(
         &[&[4, 0, 1, 0, 0, 1][..], &BIG_BYTES].concat(),
@@ -141,7 +141,29 @@ fn split() {
             Side::Next,
             Count::Exact(BIG),
         ),
-        "split current, force, horizontal, after, 18446744073709551615",
+        "split current, force, below, 18446744073709551615 times",
+    );
+    read(
+        &[4, 1, 0, 1, 0, 1, 1],
+        split(
+            OpenTarget::Alternate,
+            OpenFlags::NONE,
+            Axis::Vertical,
+            Side::Next,
+            Count::Exact(1),
+        ),
+        "split alternate, on the right",
+    );
+    read(
+        &[4, 2, 0, 0, 1, 0],
+        split(
+            OpenTarget::Unnamed,
+            OpenFlags::NONE,
+            Axis::Horizontal,
+            Side::Previous,
+            Count::Contextual,
+        ),
+        "split unnamed, above, as often as the context says",
     );
 }
 
@@ -268,17 +290,14 @@ fn lines_in_words() {
         ("+5-3q!", "close window previous 2, quit, force"),
         ("$q", "close window last, quit"),
         ("qa", "close all tabs, quit"),
-        ("res +5", "resize window current, horizontal, by +5"),
-        ("2vert res -5", "resize window current, vertical, by -5"),
-        ("2res 7", "resize window 2, horizontal, to 7"),
-        ("sp", "split current, horizontal, before, 1"),
-        ("bel vs! %", "split current, force, vertical, after, 1"),
-        (r"vert 3sp a\ b", r#"open "a b", vertical, before, 3"#),
+        ("res +5", "resize window current, height by +5"),
+        ("2vert res -5", "resize window current, width by -5"),
+        ("2res 7", "resize window 2, height to 7"),
+        ("sp", "split current, above"),
+        ("bel vs! %", "split current, force, on the right"),
+        (r"vert 3sp a\ b", r#"open "a b", on the left, width 3"#),
         ("view a", r#"switch to "a", read-only"#),
-        (
-            "abo view #",
-            "split alternate, read-only, horizontal, before, 1",
-        ),
+        ("abo view #", "split alternate, read-only, above"),
         ("w", "write window current"),
         (
             r#"w! "a\"\\b""#,

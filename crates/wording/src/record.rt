@@ -84,9 +84,9 @@ fn change(record: &[u8], out: &mut [u8], s: Step) -> Step
     let t = past(s, n);
     let v = n.value;
     match v {
-        0 => decimal_behind(record, out, t, b", to "),
-        1 => decimal_behind(record, out, t, b", by +"),
-        2 => decimal_behind(record, out, t, b", by -"),
+        0 => decimal_behind(record, out, t, b" to "),
+        1 => decimal_behind(record, out, t, b" by +"),
+        2 => decimal_behind(record, out, t, b" by -"),
         _ => bad(t),
     }
 }
@@ -105,7 +105,7 @@ fn resize(record: &[u8], out: &mut [u8], s: Step) -> Step
     ensures { λ r. ⌜ Behind (now (out .entry)) (now (out .exit)) (s .at) (r .at) ⌝ }
 {
     let t = focus_behind(record, out, s, b"resize window ");
-    let u = one_of(record, out, t, b", horizontal", b", vertical");
+    let u = one_of(record, out, t, b", height", b", width");
     change(record, out, u)
 }
 
@@ -118,21 +118,73 @@ fn opened(record: &[u8], out: &mut [u8], s: Step, lead: &[u8]) -> Step
     flags(record, out, u, b", force", b", read-only")
 }
 
-// Where a window is opened: axis, side and count.
-fn placed(record: &[u8], out: &mut [u8], s: Step) -> Step
+// On which side of this one a window is opened: axis and side.
+fn side(record: &[u8], out: &mut [u8], s: Step) -> Step
     ensures { λ r. ⌜ Behind (now (out .entry)) (now (out .exit)) (s .at) (r .at) ⌝ }
 {
-    let t = one_of(record, out, s, b", horizontal", b", vertical");
-    let u = one_of(record, out, t, b", after", b", before");
-    count(record, out, u, b", ")
+    let n = number(record, s.from);
+    let t = past(s, n);
+    let v = n.value;
+    match v {
+        0 => one_of(record, out, t, b", below", b", above"),
+        1 => one_of(record, out, t, b", on the right", b", on the left"),
+        _ => bad(t),
+    }
 }
 
-// Open, or Split.
-fn open(record: &[u8], out: &mut [u8], s: Step, lead: &[u8]) -> Step
+// The size along an axis; nothing where the context decides.
+fn size(record: &[u8], out: &mut [u8], s: Step, axis: u64) -> Step
     ensures { λ r. ⌜ Behind (now (out .entry)) (now (out .exit)) (s .at) (r .at) ⌝ }
 {
-    let t = opened(record, out, s, lead);
-    placed(record, out, t)
+    if axis == 0 {
+        return count(record, out, s, b", height ");
+    }
+    count(record, out, s, b", width ")
+}
+
+// How often, if it is not once.
+fn often(record: &[u8], out: &mut [u8], s: Step) -> Step
+    ensures { λ r. ⌜ Behind (now (out .entry)) (now (out .exit)) (s .at) (r .at) ⌝ }
+{
+    let n = number(record, s.from);
+    if n.value == 1 {
+        return past(s, n);
+    }
+    let t = decimal_behind(record, out, s, b", ");
+    said(out, t, b" times")
+}
+
+// A count of times.
+fn times(record: &[u8], out: &mut [u8], s: Step) -> Step
+    ensures { λ r. ⌜ Behind (now (out .entry)) (now (out .exit)) (s .at) (r .at) ⌝ }
+{
+    let n = number(record, s.from);
+    let t = past(s, n);
+    let v = n.value;
+    match v {
+        0 => said(out, t, b", as often as the context says"),
+        1 => often(record, out, t),
+        _ => bad(t),
+    }
+}
+
+// Open: where, and the size of the new window.
+fn open(record: &[u8], out: &mut [u8], s: Step) -> Step
+    ensures { λ r. ⌜ Behind (now (out .entry)) (now (out .exit)) (s .at) (r .at) ⌝ }
+{
+    let t = opened(record, out, s, b"open ");
+    let axis = number(record, t.from);
+    let u = side(record, out, t);
+    size(record, out, u, axis.value)
+}
+
+// Split: where, and how often.
+fn split(record: &[u8], out: &mut [u8], s: Step) -> Step
+    ensures { λ r. ⌜ Behind (now (out .entry)) (now (out .exit)) (s .at) (r .at) ⌝ }
+{
+    let t = opened(record, out, s, b"split ");
+    let u = side(record, out, t);
+    times(record, out, u)
 }
 
 // Write.
@@ -177,8 +229,8 @@ fn action(record: &[u8], out: &mut [u8], s: Step) -> Step
             b"all windows",
         ),
         2 => resize(record, out, t),
-        3 => open(record, out, t, b"open "),
-        4 => open(record, out, t, b"split "),
+        3 => open(record, out, t),
+        4 => split(record, out, t),
         5 => opened(record, out, t, b"switch to "),
         6 => write(record, out, t),
         7 => close(record, out, t, b"tab ", b"all tabs but ", b"all tabs"),

@@ -32,17 +32,11 @@ close-requires c κs = search needs
 resize-requires : tie.Need-resize-requires
 resize-requires c κs = search needs
 
-slice-aggregate-open : tie.Need-slice-aggregate-open
-slice-aggregate-open c = search needs
-
 open-requires : tie.Need-open-requires
 open-requires c κs = search needs
 
-slice-aggregate-open-2 : tie.Need-slice-aggregate-open-2
-slice-aggregate-open-2 c = search needs
-
-open-requires-2 : tie.Need-open-requires-2
-open-requires-2 c κs = search needs
+split-requires : tie.Need-split-requires
+split-requires c κs = search needs
 
 slice-aggregate-opened : tie.Need-slice-aggregate-opened
 slice-aggregate-opened c = search needs
@@ -165,10 +159,8 @@ action-spec =
     slice-aggregate-close-3
     close-requires
     resize-requires
-    slice-aggregate-open
     open-requires
-    slice-aggregate-open-2
-    open-requires-2
+    split-requires
     slice-aggregate-opened
     opened-requires
     write-requires

@@ -1,9 +1,15 @@
--- `wording::record::placed` meets its contract.
+-- `wording::record::side` meets its contract.
 -- Assumes nothing.
-use Rattle.texts.specs.BehindLaws.{behind-then}
+use Rattle.texts.specs.BehindLaws.{behind-then, behind-none}
 use borrow.Author.Needs.{needs}
-use Rattle.wording.proofs.record.placed.Statement.{statement}
-use Rattle.wording.proofs.record.placed.Tie as tie
+use Rattle.wording.proofs.record.side.Statement.{statement}
+use Rattle.wording.proofs.record.side.Tie as tie
+
+number-requires : tie.Need-number-requires
+number-requires c κs = search needs
+
+past-requires : tie.Need-past-requires
+past-requires c κs = search needs
 
 slice-aggregate-one-of : tie.Need-slice-aggregate-one-of
 slice-aggregate-one-of c = search needs
@@ -23,29 +29,39 @@ slice-aggregate-one-of-4 c = search needs
 one-of-requires-2 : tie.Need-one-of-requires-2
 one-of-requires-2 c κs = search needs
 
-slice-aggregate-count : tie.Need-slice-aggregate-count
-slice-aggregate-count c = search needs
-
-count-requires : tie.Need-count-requires
-count-requires c κs = search needs
+bad-requires : tie.Need-bad-requires
+bad-requires c κs = search needs
 
 same-length : tie.Need-same-length
 same-length c = search needs
 
 returns : tie.Need-returns
-returns c = search (needs, behind-then)
+returns c = search (needs, behind-then, behind-none)
 
-pub placed-spec : {M : Type 1} → statement M
-placed-spec =
+same-length-2 : tie.Need-same-length-2
+same-length-2 c = search needs
+
+returns-2 : tie.Need-returns-2
+returns-2 c = search (needs, behind-then, behind-none)
+
+returns-3 : tie.Need-returns-3
+returns-3 c = search needs
+
+pub side-spec : {M : Type 1} → statement M
+side-spec =
     tie.close
     (tie.spec
+    number-requires
+    past-requires
     slice-aggregate-one-of
     slice-aggregate-one-of-2
     one-of-requires
     slice-aggregate-one-of-3
     slice-aggregate-one-of-4
     one-of-requires-2
-    slice-aggregate-count
-    count-requires
+    bad-requires
     same-length
-    returns)
+    returns
+    same-length-2
+    returns-2
+    returns-3)
