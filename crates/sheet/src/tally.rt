@@ -115,6 +115,16 @@ fn put_count(out: &mut [u8], at: usize, n: u64, what: &[u8]) -> usize
     put_text(out, i, what)
 }
 
+// The same, with one of them told by another text.
+fn put_counted(out: &mut [u8], at: usize, n: u64, one: &[u8], many: &[u8]) -> usize
+    ensures { λ r. ⌜ Behind (now (out .entry)) (now (out .exit)) at r ⌝ }
+{
+    if n == 1 {
+        return put_count(out, at, n, one);
+    }
+    put_count(out, at, n, many)
+}
+
 // How many lines were refused by a number, if any.
 fn put_by(out: &mut [u8], at: usize, n: u64, count: u64) -> usize
     ensures { λ r. ⌜ Behind (now (out .entry)) (now (out .exit)) at r ⌝ }
@@ -166,8 +176,8 @@ fn put_all_by(out: &mut [u8], at: usize, by: &[u64; COUNTS]) -> usize
 fn put_lines(out: &mut [u8], at: usize, t: Tally) -> usize
     ensures { λ r. ⌜ Behind (now (out .entry)) (now (out .exit)) at r ⌝ }
 {
-    let i = put_count(out, at, t.lines, b" lines: ");
-    let j = put_count(out, i, t.actions, b" actions, ");
+    let i = put_counted(out, at, t.lines, b" line: ", b" lines: ");
+    let j = put_counted(out, i, t.actions, b" action, ", b" actions, ");
     put_count(out, j, t.nothing, b" nothing, ")
 }
 
