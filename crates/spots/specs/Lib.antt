@@ -1,2 +1,4 @@
 pub mod Spot
 pub mod SpotLaws
+pub mod Text
+pub mod TextLaws

@@ -7,12 +7,17 @@ use super::spot::plus;
 use super::spot::spot_in;
 use super::text::Text;
 use super::text::last_text;
+use super::text::unknown_spot;
 use limits::refusal::Numbered;
 use limits::refusal::Refusal;
 use limits::refusal::refusal_of;
 use scan::part::part;
+ghost use mathlib.Core.Path.{_≡_};
 ghost use lib.ListN.{length};
+ghost use Rattle.limits.specs.Refusals.{refusalNo};
+ghost use Rattle.layout.specs.Layout.{sessionOf, tableOf};
 ghost use Rattle.spots.specs.Spot.{Placed};
+ghost use Rattle.spots.specs.Text.{UnknownAt};
 
 // The place in the text of the last reading.
 fn read_spot(session: &[u8], line: &[u8], x: Refusal, readings: u64) -> Spot
@@ -27,17 +32,20 @@ fn read_spot(session: &[u8], line: &[u8], x: Refusal, readings: u64) -> Spot
 
 // The place in a line by its refusal: before any reading only 2 has one.
 fn refusal_spot(session: &[u8], line: &[u8], x: Refusal, readings: u64) -> Spot
-    ensures { λ r. ⌜ Placed (length (now (line .entry))) r ⌝ }
+    ensures placed { λ r. ⌜ Placed (length (now (line .entry))) r ⌝ }
+    ensures word { λ r. ⌜ (x ≡ Refusal.UnknownWord → UnknownAt (tableOf (sessionOf (now (session .entry)))) (now (line .entry)) readings r) ⌝ }
 {
     match x {
         Refusal::NotUtf8 => byte_spot(line),
+        Refusal::UnknownWord => unknown_spot(session, line, readings),
         _ => read_spot(session, line, x, readings),
     }
 }
 
 // The place in a line that was run on a session and refused so, in so many readings.
 pub fn spot_of(session: &[u8], line: &[u8], refusal: u64, readings: u64) -> Spot
-    ensures { λ r. ⌜ Placed (length (now (line .entry))) r ⌝ }
+    ensures placed { λ r. ⌜ Placed (length (now (line .entry))) r ⌝ }
+    ensures word { λ r. ⌜ (refusal ≡ refusalNo Refusal.UnknownWord → UnknownAt (tableOf (sessionOf (now (session .entry)))) (now (line .entry)) readings r) ⌝ }
 {
     match refusal_of(refusal) {
         Numbered::Refused(x) => refusal_spot(session, line, x, readings),

@@ -116,7 +116,6 @@ fn read_spot(session: &[u8], s: &[u8], d: CommandDescription, x: Refusal) -> Spo
         Refusal::InvalidArgument => argument_spot(s, d),
         Refusal::InvalidRange => ends_spot(session, s, d, number(x)),
         Refusal::SumTooLarge => ends_spot(session, s, d, number(x)),
-        Refusal::UnknownWord => word_spot(d),
         Refusal::Unimplemented => word_spot(d),
         _ => nowhere(),
     }
