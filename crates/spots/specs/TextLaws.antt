@@ -3,7 +3,7 @@
 use mathlib.Core.Path.{_≡_, refl, sym, _∙_, ap}
 use mathlib.Core.Bool.{Bool, true, false, cond}
 use mathlib.Core.List.{List}
-use Prim.Native.Nat.{ℕ, suc, _+_, _-_, _≤_, _<_}
+use Prim.Native.Nat.{ℕ, _+_, _-_, _≤_, _<_}
 use native.Mathlib.Omega.{arith}
 use lib.ListN.{length}
 use lib.Dec.{eqb}
@@ -22,14 +22,13 @@ use Rattle.handlers.specs.declared.done.Done.{Done}
 use Rattle.words.specs.Words.{Row, lookupIn}
 use Rattle.words.specs.declared.words.Named.{Named}
 use Rattle.commands.specs.Handle.{roleOf, handleOf}
-use Rattle.commands.specs.Run.{byFocus, byRole, byName, byReading, decide, change, Out, step, runOn, lineFrom}
+use Rattle.commands.specs.Run.{byFocus, byRole, byName, byReading, decide, Out, step, runOn, lineFrom}
 use Rattle.commands.specs.RunLaws.{run-is}
-use Rattle.commands.specs.TurnLaws.{NextIn}
 use Rattle.commands.specs.declared.next.Change.{Change}
 use Rattle.commands.specs.declared.next.Next.{Next}
 use Rattle.commands.specs.declared.next.Role.{Role}
 use Rattle.run.specs.Reply.{after, doneAt}
-use Rattle.run.specs.Held.{Held, held-start, held-next, held-empty, held-refused, held-unknown, held-runs, held-again}
+use Rattle.run.specs.Held.{held-start, held-next, held-empty, held-refused, held-unknown, held-runs, held-again}
 use Rattle.spots.specs.Text.{Reached}
 
 -- a word that is looked up is not empty --------------------------------------------------------------------------------------------------
@@ -48,7 +47,7 @@ role-known s d i Role.Action a e h = let z : _≡_ {A = ℕ} 0 1 = cc in omega a
 
 module _ (table : List Row) where
   -- the word that a text's reading finds unknown has bytes
-  pub unknown-some : (s : List ℕ) (a e : ℕ) → decide table s ≡ Next.Unknown a e → a ≡ e → ⊥
+  unknown-some : (s : List ℕ) (a e : ℕ) → decide table s ≡ Next.Unknown a e → a ≡ e → ⊥
   unfolding decide byReading byName
   unknown-some s a e h k = go (readingOf s) h
     where
@@ -66,7 +65,7 @@ module _ (table : List Row) where
           by false y g = named d (lookupIn table (partOf s (d .word) (d .end))) (eqb-false (d .word) (d .end) y) g
 
   -- a text has at least one reading
-  pub some-reading : (x : CommandContext) (s : List ℕ) → 1 ≤ runOn table x s .readings
+  some-reading : (x : CommandContext) (s : List ℕ) → 1 ≤ runOn table x s .readings
   unfolding step
   some-reading x s = rw (run-is table x s) (go (decide table s))
     where

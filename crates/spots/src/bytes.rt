@@ -2,7 +2,7 @@
 use super::spot::Spot;
 use super::spot::between;
 use super::spot::nowhere;
-use super::spot::plus;
+use super::spot::nowhere_in;
 use super::spot::spot_in;
 use blocks::test::not_space;
 use scan::classes::Kind;
@@ -15,6 +15,7 @@ use scan::run::run_end;
 use utf8::utf8::is_utf8;
 ghost use lib.ListN.{length};
 ghost use Rattle.spots.specs.Spot.{Placed};
+ghost use Rattle.spots.specs.Utf8.{BadAt, Utf8UpTo};
 
 // Where the bytes that are no spaces end.
 pub fn field_end(s: &[u8], at: usize) -> usize {
@@ -63,7 +64,9 @@ pub fn digits_spot(s: &[u8]) -> Spot {
 }
 
 // Where the longest part from the front on that is UTF-8 ends.
-fn utf8_end(line: &[u8]) -> usize {
+fn utf8_end(line: &[u8]) -> usize
+    ensures { λ r. ⌜ Utf8UpTo (now (line .entry)) r ⌝ }
+{
     let mut n = line.len();
     while 0 < n {
         if is_utf8(part(line, 0, n)) {
@@ -76,8 +79,12 @@ fn utf8_end(line: &[u8]) -> usize {
 
 // The first byte at which no character of UTF-8 stands.
 pub fn byte_spot(line: &[u8]) -> Spot
-    ensures { λ r. ⌜ Placed (length (now (line .entry))) r ⌝ }
+    ensures placed { λ r. ⌜ Placed (length (now (line .entry))) r ⌝ }
+    ensures bad { λ r. ⌜ BadAt (now (line .entry)) r ⌝ }
 {
     let n = utf8_end(line);
-    spot_in(line, n, plus(n, 1))
+    if n < line.len() {
+        return spot_in(line, n, n + 1);
+    }
+    nowhere_in(line)
 }

@@ -18,6 +18,7 @@ ghost use Rattle.limits.specs.Refusals.{refusalNo};
 ghost use Rattle.layout.specs.Layout.{sessionOf, tableOf};
 ghost use Rattle.spots.specs.Spot.{Placed};
 ghost use Rattle.spots.specs.Text.{UnknownAt};
+ghost use Rattle.spots.specs.Utf8.{BadAt};
 
 // The place in the text of the last reading.
 fn read_spot(session: &[u8], line: &[u8], x: Refusal, readings: u64) -> Spot
@@ -33,6 +34,7 @@ fn read_spot(session: &[u8], line: &[u8], x: Refusal, readings: u64) -> Spot
 // The place in a line by its refusal: before any reading only 2 has one.
 fn refusal_spot(session: &[u8], line: &[u8], x: Refusal, readings: u64) -> Spot
     ensures placed { λ r. ⌜ Placed (length (now (line .entry))) r ⌝ }
+    ensures bad { λ r. ⌜ (x ≡ Refusal.NotUtf8 → BadAt (now (line .entry)) r) ⌝ }
     ensures word { λ r. ⌜ (x ≡ Refusal.UnknownWord → UnknownAt (tableOf (sessionOf (now (session .entry)))) (now (line .entry)) readings r) ⌝ }
 {
     match x {
@@ -45,6 +47,7 @@ fn refusal_spot(session: &[u8], line: &[u8], x: Refusal, readings: u64) -> Spot
 // The place in a line that was run on a session and refused so, in so many readings.
 pub fn spot_of(session: &[u8], line: &[u8], refusal: u64, readings: u64) -> Spot
     ensures placed { λ r. ⌜ Placed (length (now (line .entry))) r ⌝ }
+    ensures bad { λ r. ⌜ (refusal ≡ refusalNo Refusal.NotUtf8 → BadAt (now (line .entry)) r) ⌝ }
     ensures word { λ r. ⌜ (refusal ≡ refusalNo Refusal.UnknownWord → UnknownAt (tableOf (sessionOf (now (session .entry)))) (now (line .entry)) readings r) ⌝ }
 {
     match refusal_of(refusal) {

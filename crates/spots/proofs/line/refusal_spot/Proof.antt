@@ -1,7 +1,7 @@
 -- `spots::line::refusal_spot` meets its contract.
 -- Assumes nothing.
 use mathlib.Core.Path.{_≡_}
-use mathlib.Core.List.{[], _∷_}
+use mathlib.Core.List.{List, [], _∷_}
 use Prim.Native.Nat.{ℕ}
 use native.Mathlib.Omega.{arith}
 use types.Run.{miss}
@@ -27,17 +27,17 @@ read-spot-requires c κs = search needs
 returns : tie.Need-returns
 returns c =
     let x = c .before .enum-told .given .1 in
-    (c .byte-spot .ensures, λ q. let z : _≡_ {A = ℕ} 0 1 = cc in absurd (omega arith))
+    (c .byte-spot .ensures .0, ((λ q. c .byte-spot .ensures .1), (λ q. let z : _≡_ {A = ℕ} 0 1 = cc in absurd (omega arith))))
 
 returns-2 : tie.Need-returns-2
-returns-2 c = search needs
+returns-2 c =
+    let x = c .before .enum-told2 .given .1 in
+    (c .unknown-spot .ensures .0, ((λ q. let z : _≡_ {A = ℕ} 0 1 = cc in absurd (omega arith)), (λ q. c .unknown-spot .ensures .1)))
 
 returns-3 : tie.Need-returns-3
 returns-3 c =
-    (
-      c .read-spot .ensures,
-      λ q. absurd (miss (0 ∷ 2 ∷ 3 ∷ 4 ∷ 5 ∷ 6 ∷ 7 ∷ 8 ∷ 10 ∷ 11 ∷ 12 ∷ 13 ∷ []) 9 tt (rw q at (c .before .match .keys3))),
-    )
+    let ks : List ℕ = 0 ∷ 2 ∷ 3 ∷ 4 ∷ 5 ∷ 6 ∷ 7 ∷ 8 ∷ 10 ∷ 11 ∷ 12 ∷ 13 ∷ [] in
+    (c .read-spot .ensures, ((λ q. absurd (miss ks 1 tt (rw q at (c .before .match .keys3)))), (λ q. absurd (miss ks 9 tt (rw q at (c .before .match .keys3))))))
 
 pub refusal-spot-spec : {M : Type 1} → statement M
 refusal-spot-spec =

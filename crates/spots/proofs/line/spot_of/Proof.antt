@@ -3,7 +3,7 @@
 use mathlib.Core.Path.{_≡_, sym, _∙_, ap}
 use mathlib.Core.List.{[], _∷_}
 use types.Run.{miss}
-use Rattle.limits.specs.Refusals.{refusalOf}
+use Rattle.limits.specs.Refusals.{refusalNo, refusalOf}
 use Rattle.limits.specs.RefusalsLaws.{refusal-back}
 use Rattle.limits.specs.declared.refusal.Numbered.{Numbered}
 use Rattle.limits.specs.declared.refusal.Refusal.{Refusal}
@@ -23,23 +23,30 @@ refusal-spot-requires c κs = search needs
 nowhere-in-requires : tie.Need-nowhere-in-requires
 nowhere-in-requires c κs = search needs
 
+-- the refusal that has the number
+told : (c : tie.After-refusal-spot) →
+    let at-x = c .before .before in
+    let start = at-x .before .before .before .before .before in
+    (x : Refusal) → start .args .refusal ≡ refusalNo x → at-x .x .given .0 .0 ≡ x
+told c x q =
+    let at-x = c .before .before in
+    let e : Numbered.Refused (at-x .x .given .0 .0) ≡ Numbered.Refused x = sym (at-x .x .given .1) ∙ at-x .before .before .refusal-of .ensures ∙ ap refusalOf q ∙ refusal-back x in
+    cc
+
+-- a number that none has
+untold : (c : tie.After-nowhere-in) →
+    let start = c .before .before .before .before .before in
+    (x : Refusal) → start .args .refusal ≡ refusalNo x → ⊥
+untold c x q =
+    miss (0 ∷ 2 ∷ []) 1 tt (rw (c .before .before .refusal-of .ensures ∙ ap refusalOf q ∙ refusal-back x) at (c .before .match .keys2))
+
 returns : tie.Need-returns
 returns c =
-    let at-x = c .before .before in
-    (
-      c .refusal-spot .ensures .0,
-      λ q.
-      let e : Numbered.Refused (at-x .x .given .0 .0) ≡ Numbered.Refused Refusal.UnknownWord = sym (at-x .x .given .1) ∙ at-x .before .before .refusal-of .ensures ∙ ap refusalOf q ∙ refusal-back Refusal.UnknownWord in
-      c .refusal-spot .ensures .1 (cc),
-    )
+    let e = c .refusal-spot .ensures in
+    (e .0, ((λ q. e .1 .0 (told c Refusal.NotUtf8 q)), (λ q. e .1 .1 (told c Refusal.UnknownWord q))))
 
 returns-2 : tie.Need-returns-2
-returns-2 c =
-    let at-refusal-of = c .before .before in
-    (
-      c .nowhere-in .ensures,
-      λ q. absurd (miss (0 ∷ 2 ∷ []) 1 tt (rw (at-refusal-of .refusal-of .ensures ∙ ap refusalOf q ∙ refusal-back Refusal.UnknownWord) at (c .before .match .keys2))),
-    )
+returns-2 c = (c .nowhere-in .ensures, ((λ q. absurd (untold c Refusal.NotUtf8 q)), (λ q. absurd (untold c Refusal.UnknownWord q))))
 
 pub spot-of-spec : {M : Type 1} → statement M
 spot-of-spec =

@@ -54,7 +54,7 @@ returns-2 c =
       arith,
       at-loop .loop .inv,
       reached-end _ _ _ _ _ (at-loop .loop .inv .2) _ (sym (at-next-of .next-of .ensures ∙ ap (decideOf _) (at-next-of .before .part .ensures)))
-      (λ ch a e r. miss (0 ∷ 1 ∷ 2 ∷ 3 ∷ []) 4 tt (rw r at (c .match .keys2))),
+          (λ ch a e r. miss (0 ∷ 1 ∷ 2 ∷ 3 ∷ []) 4 tt (rw r at (c .match .keys2))),
     )
 
 again : (c : tie.After-known-told Inv-loop μ-loop) →

@@ -1,6 +1,6 @@
 -- `spots::text::unknown_spot` meets its contract.
 -- Assumes nothing.
-use mathlib.Core.Path.{_≡_, refl, sym, _∙_, ap}
+use mathlib.Core.Path.{refl, sym, _∙_, ap}
 use mathlib.Core.List.{[], _∷_}
 use Prim.Native.Nat.{_+_, _-_, _<_, _≤_}
 use lib.ListN.{length}
@@ -55,11 +55,10 @@ nowhere-in-requires-2 c κs = search needs
 returns-2 : tie.Need-returns-2
 returns-2 c =
     let at-next-of = c .before .before in
-    let f = found (at-next-of .before .before) in
-    (
+    let f = found (at-next-of .before .before) in (
       c .nowhere-in2 .ensures,
       λ w k. absurd (unknown-end _ _ _ _ _ (f .1) _ _ w (sym (at-next-of .next-of .ensures ∙ ap (decideOf _) (at-next-of .before .part .ensures)))
-      (λ a e r. miss (0 ∷ 1 ∷ 3 ∷ 4 ∷ []) 2 tt (rw r at (c .before .match2 .keys2))) (omega (arith, f .0)) k),
+          (λ a e r. miss (0 ∷ 1 ∷ 3 ∷ 4 ∷ []) 2 tt (rw r at (c .before .match2 .keys2))) (omega (arith, f .0)) k),
     )
 
 -- its word
@@ -87,13 +86,12 @@ returns-3 : tie.Need-returns-3
 returns-3 c =
     let at-known = c .before in
     let at-next-of = at-known .before .before .before in
-    let d = decided at-known in
-    (
+    let d = decided at-known in (
       c .spot-in .ensures .0,
       λ w k. rw (c .spot-in .ensures .1 (omega (arith, d)) (omega (arith, d))) (
         refl,
         unknown-word _ _ _ _ _ (found (at-next-of .before .before) .1) _ _ _ w
-        (sym (at-next-of .next-of .ensures ∙ ap (decideOf _) (at-next-of .before .part .ensures)) ∙ at-known .before .a .given .1) k,
+            (sym (at-next-of .next-of .ensures ∙ ap (decideOf _) (at-next-of .before .part .ensures)) ∙ at-known .before .a .given .1) k,
       ),
     )
 
