@@ -25,6 +25,7 @@ use Rattle.crc.specs.XorLaws.{by-digit, xor-odd, xor-half, xor-assoc, xo
 pick : ℕ → ℕ → ℕ → ℕ
 pick p x y = cond (eqb x 1) (bitXor p y) y
 
+-- it is linear
 pick-xor : (p x y a b : ℕ) → x < 2 → y < 2 → pick p (differ x y) (bitXor a b) ≡ bitXor (pick p x a) (pick p y b)
 unfolding pick
 pick-xor p x y a b h k =
@@ -43,6 +44,7 @@ bit-xor a b =
     ∙ pick-xor 0xEDB88320 (a % 2) (b % 2) (a / 2) (b / 2) (omega arith) (omega arith)
     ∙ sym (ap₂ bitXor (bit-pick a) (bit-pick b))
 
+-- a bit that is 0 is dropped
 bit-twice : (a : ℕ) → crcBit (a * 2) ≡ a
 bit-twice a = bit-even (a * 2) (λ e. omega arith) ∙ omega arith
 
@@ -60,16 +62,18 @@ byte-xor : (a b : ℕ) → crcByte (bitXor a b) 0 ≡ bitXor (crcByte a 0) (crcB
 unfolding crcByte eight
 byte-xor = eight-xor
 
+-- a byte is put to the number, and a byte that is 0 passed
 byte-zero : (c b : ℕ) → crcByte c b ≡ crcByte (bitXor b c) 0
 unfolding crcByte
 byte-zero c b = refl
 
+-- eight bits that are 0 are dropped
 byte-shift : (a : ℕ) → crcByte (a * 256) 0 ≡ a
 unfolding crcByte
 byte-shift a = let e : a * 256 ≡ a * 2 * 2 * 2 * 2 * 2 * 2 * 2 * 2 = omega arith in rw e (simp bit-twice)
 
--- a byte is what it makes of the low one, and a shift
-pub byte-parts : (c : ℕ) → crcByte c 0 ≡ bitXor (crcByte (c % 256) 0) (c / 256)
+-- a byte that is 0 makes of a number what it makes of its low byte, and a shift
+byte-parts : (c : ℕ) → crcByte c 0 ≡ bitXor (crcByte (c % 256) 0) (c / 256)
 byte-parts c = ap (λ x. crcByte x 0) (xor-parts c) ∙ byte-xor (c % 256) (c / 256 * 256) ∙ ap (bitXor (crcByte (c % 256) 0)) (byte-shift (c / 256))
 
 -- bytes that are 0 ---------------------------------------------------------------------------------------------------------
@@ -91,10 +95,12 @@ passed-parts k x =
     ∙ ap (bitXor (passed (suc k) (x % 256))) (passed-shift k (x / 256))
 
 -- one more, behind the others
-pub passed-last : (k c : ℕ) → passed (suc k) c ≡ crcByte (passed k c) 0
+passed-last : (k c : ℕ) → passed (suc k) c ≡ crcByte (passed k c) 0
 unfolding passed
 passed-last zero c = refl
 passed-last (suc k) c = passed-last k (crcByte c 0)
+
+-- bytes as one number, passed at once --------------------------------------------------------------------------------------
 
 -- a text in two parts
 from-append : (c : ℕ) (xs ys : List ℕ) → crcFrom c (xs ++ ys) ≡ crcFrom (crcFrom c xs) ys
@@ -102,9 +108,8 @@ unfolding crcFrom
 from-append c [] ys = refl
 from-append c (b ∷ bs) ys = from-append (crcByte c b) bs ys
 
--- bytes as one number, passed at once --------------------------------------------------------------------------------------
-
-pub from-number : (c : ℕ) (xs : List ℕ) → ((i : ℕ) → i < length xs → getD xs i 0 < 256) → crcFrom c xs ≡ passed (length xs) (bitXor (numberOf xs) c)
+-- a text is passed as the number that it is
+from-number : (c : ℕ) (xs : List ℕ) → ((i : ℕ) → i < length xs → getD xs i 0 < 256) → crcFrom c xs ≡ passed (length xs) (bitXor (numberOf xs) c)
 unfolding crcFrom numberOf passed
 from-number c [] h = refl
 from-number c (b ∷ bs) h =
@@ -128,6 +133,7 @@ from-eight d s i h b =
 
 -- the entries of the table ---------------------------------------------------------------------------------------------------
 
+-- the first 256: one byte
 pub entry-low : (j : ℕ) → j < 256 → entryOf j ≡ crcByte j 0
 unfolding entryOf passed
 entry-low j h = let d : j / 256 ≡ 0 = omega arith in let m : j % 256 ≡ j = omega arith in rw (d, m)
@@ -140,11 +146,13 @@ entry-next j h =
     let m : j % 256 ≡ (j - 256) % 256 = omega arith in
     rw (d, m, add-one ((j - 256) / 256 + 1)) (passed-last ((j - 256) / 256 + 1) ((j - 256) % 256))
 
+-- and so by the first 256
 pub entry-on : (j : ℕ) → 256 ≤ j → entryOf j ≡ bitXor (entryOf (entryOf (j - 256) % 256)) (entryOf (j - 256) / 256)
 entry-on j h =
     let v = entryOf (j - 256) in
     entry-next j h ∙ byte-parts v ∙ ap (λ x. bitXor x (v / 256)) (sym (entry-low (v % 256) (omega arith)))
 
+-- those of k + 1 bytes
 pub entry-at : (k x : ℕ) → entryOf (k * 256 + x % 256) ≡ passed (k + 1) (x % 256)
 unfolding entryOf
 entry-at k x =
