@@ -20,10 +20,22 @@ fn lines(bytes: &[u8]) -> Vec<&[u8]> {
     lines
 }
 
+/// The lines of a report, without the texts of refused lines, which stand under their lines.
 fn report(file: &str) -> Vec<String> {
     let text = String::from_utf8(read(file)).expect("reports are UTF-8");
-    text.lines().map(str::to_owned).collect()
+    text.lines()
+        .filter(|line| !line.starts_with("    "))
+        .map(str::to_owned)
+        .collect()
 }
+
+/// The lines behind a heading.
+fn behind<'a>(report: &'a [String], heading: &str) -> &'a [String] {
+    let at = report.iter().position(|line| line == heading);
+    &report[1 + at.expect("the heading")..]
+}
+
+const SPELLINGS: &str = "spellings and their commands";
 
 /// A line of the report, without its number.
 fn told(answer: &Answer) -> String {
@@ -66,14 +78,11 @@ fn compare(session: &mut Session, sheet: &[&[u8]], report: &[String]) {
 fn the_reference_sheet() {
     let sheet = read("checklist/data/reference.sheet");
     let report = report("checklist/stdout");
-    let first = 1 + report
-        .iter()
-        .position(|line| line == "reference sheet")
-        .expect("the third part");
+    let third = behind(&report, "reference sheet");
     compare(
         &mut Session::new(),
         &lines(&sheet),
-        &report[first..report.len() - 1],
+        &third[..third.len() - 1],
     );
 }
 
@@ -92,9 +101,8 @@ fn add(session: &mut Session, word: &[u8], command: &[u8]) -> Result<(), String>
 
 /// The command that a shipped spelling leads to, by the first part of the checklist's report.
 fn spelled(word: &str) -> Option<u64> {
-    report("checklist/stdout")
+    behind(&report("checklist/stdout"), SPELLINGS)
         .iter()
-        .skip(1)
         .take(68)
         .find_map(|line| {
             let mut parts = line.split(' ');
@@ -108,7 +116,9 @@ fn spelled(word: &str) -> Option<u64> {
 fn the_spellings_and_the_names_of_their_commands() {
     let report = report("checklist/stdout");
 
-    for line in &report[1..69] {
+    let spellings = behind(&report, SPELLINGS);
+
+    for line in &spellings[..68] {
         let parts: Vec<&str> = line.split(' ').collect();
         let number: u64 = parts[1].parse().expect("a number");
         assert_eq!(
@@ -117,7 +127,7 @@ fn the_spellings_and_the_names_of_their_commands() {
         );
     }
 
-    assert_eq!(report[69], "68 spellings");
+    assert_eq!(spellings[68], "68 spellings");
 }
 
 #[test]
@@ -125,7 +135,7 @@ fn the_reference_sheet_with_aliases() {
     let mut session = Session::new();
     let report = report("exsheet/stdout");
     let aliases = read("exsheet/data/reference.aliases");
-    let mut at = 0;
+    let mut at = 3;
 
     for (number, line) in lines(&aliases).into_iter().enumerate() {
         let fields: Vec<&[u8]> = line
@@ -156,6 +166,10 @@ fn the_reference_sheet_with_aliases() {
         }
     }
 
-    let sheet = read("exsheet/stdin");
-    compare(&mut session, &lines(&sheet), &report[at..]);
+    let sheet = read("exsheet/data/reference.sheet");
+    compare(
+        &mut session,
+        &lines(&sheet),
+        &report[at..report.len() - 1],
+    );
 }

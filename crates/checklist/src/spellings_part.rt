@@ -1,9 +1,9 @@
 // Each spelling, in byte order, with the command that it leads to: the command's number and its name.
+use console::report::Report;
+use console::report::flush_full;
+use console::report::up_to;
 use scan::part::part;
 use sheet::report::put_number;
-use sheet::sheet::Report;
-use sheet::sheet::flush_full;
-use sheet::sheet::up_to;
 use spellings::names;
 use spellings::row_at;
 use spellings::spellings;

@@ -15,10 +15,11 @@ use texts::put::put_byte;
 use texts::put::put_quoted;
 use texts::put::put_text;
 
-// Where an order is told up to, and whether it agrees.
+// Where an order is told up to, whether it agrees, and whether its line is refused.
 pub struct Told {
     pub at: usize,
     pub agrees: bool,
+    pub refused: bool,
 }
 
 // Runs a line on a fresh session.
@@ -86,5 +87,6 @@ pub fn put_told(out: &mut [u8], at: usize, line: &[u8], p: Prefixes, number: u64
     Told {
         at: put_order(out, at, from_one, reply, written, agreed, typed),
         agrees: agreed,
+        refused: reply.refusal != 0,
     }
 }

@@ -14,16 +14,18 @@ use utf8::utf8::is_utf8;
 use words::words::Named;
 use words::words::lookup;
 
-// What a line came to: 0 or a refusal, and for 10 where the word stands that no command has.
+// What a line came to: 0 or a refusal, whether it has an alias (1) or nothing (0), and for 10 where the word stands that no command has.
 pub struct Added {
     pub refusal: u64,
+    pub kind: u8,
     pub start: usize,
     pub stop: usize,
 }
 
-fn plain(refusal: u64) -> Added {
+fn plain(refusal: u64, kind: u8) -> Added {
     Added {
         refusal: refusal,
+        kind: kind,
         start: 0,
         stop: 0,
     }
@@ -59,9 +61,10 @@ fn command_of(s: &[u8]) -> Named {
 // The line's word and command, as they stand.
 fn add(session: &mut [u8], line: &[u8], w: usize, e: usize, c: usize, f: usize) -> Added {
     match command_of(part(line, c, f)) {
-        Named::Command(n) => plain(alias_in(session, part(line, w, e), n)),
+        Named::Command(n) => plain(alias_in(session, part(line, w, e), n), 1),
         Named::Unknown => Added {
             refusal: number(Refusal::UnknownWord),
+            kind: 0,
             start: c,
             stop: f,
         },
@@ -74,13 +77,13 @@ fn read(session: &mut [u8], line: &[u8]) -> Added {
     let n = line.len();
     let w = skip_spaces(line, 0, &table);
     if n <= w {
-        return plain(0);
+        return plain(0, 0);
     }
     let e = field_end(line, w);
     let c = skip_spaces(line, e, &table);
     let f = field_end(line, c);
     if n <= c || skip_spaces(line, f, &table) != n {
-        return plain(number(Refusal::ParseFailed));
+        return plain(number(Refusal::ParseFailed), 0);
     }
     add(session, line, w, e, c, f)
 }
@@ -89,10 +92,10 @@ fn read(session: &mut [u8], line: &[u8]) -> Added {
 // command that there is not (10), and what the session refuses (8, 9, 13).
 pub fn alias_line(session: &mut [u8], line: &[u8]) -> Added {
     if LINE < line.len() {
-        return plain(number(Refusal::LineTooLong));
+        return plain(number(Refusal::LineTooLong), 0);
     }
     if !is_utf8(line) {
-        return plain(number(Refusal::NotUtf8));
+        return plain(number(Refusal::NotUtf8), 0);
     }
     read(session, line)
 }

@@ -2,4 +2,3 @@
 pub mod alias;
 pub mod report;
 pub mod sheet;
-pub mod tally;

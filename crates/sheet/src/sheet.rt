@@ -1,57 +1,43 @@
 // A sheet: bytes cut into lines, and each line run or added as an alias and told, in fixed memory. 0x0A ends a line and is no part of it; a
 // last line may go without.
+use super::alias::Added;
 use super::alias::alias_line;
 use super::report::put_alias_told;
-use super::report::put_line;
-use super::tally::Tally;
-use super::tally::none;
-use super::tally::tallied;
-use libc::STDOUT_FILENO;
+use super::report::put_line_told;
+use console::file::Sum;
+use console::file::ended;
+use console::file::no_sum;
+use console::file::summed;
+use console::file::tell_of;
+use console::report::Report;
+use console::report::flush_full;
+use console::report::up_to;
 use limits::LINE;
 use limits::STORE;
+use run::reply::LineReply;
 use scan::classes::Kind;
 use scan::classes::classes;
+use scan::part::byte_at;
 use scan::part::part;
 use scan::run::run_end;
 use session::lent::line_in;
+use tally::Tally;
+use tally::none;
+use tally::tallied;
 use texts::put::put_text;
 ghost use Prim.Native.Nat.{_≤_};
 ghost use lib.ListN.{length};
 
-// How far a report is: where it ends in the buffer, whether it is summed, and the sum of what was written out before it.
-pub struct Report {
-    pub at: usize,
-    pub summed: bool,
-    pub crc: u64,
-}
-
-// How far a sheet is: whether its lines are aliases, how many lines were told, how many bytes of the next one are held, whether more is to
-// be read, what the lines came to, and the report.
+// How far a sheet is: whether its lines are aliases, how many lines were told, whether one of them ends in a carriage return, how many bytes
+// of the next one are held, what was read, what the lines came to, and the report.
 pub struct Sheet {
     pub aliases: bool,
     pub number: u64,
+    pub returns: bool,
     pub held: usize,
-    pub more: bool,
+    pub sum: Sum,
     pub tally: Tally,
     pub report: Report,
-}
-
-// A report of which nothing is written.
-pub fn fresh_report(summed: bool) -> Report {
-    Report {
-        at: 0,
-        summed: summed,
-        crc: crc::start(),
-    }
-}
-
-// The report with text up to `at` in the buffer.
-pub fn up_to(r: Report, at: usize) -> Report {
-    Report {
-        at: at,
-        summed: r.summed,
-        crc: r.crc,
-    }
 }
 
 // A sheet that starts.
@@ -59,11 +45,20 @@ pub fn start(aliases: bool, r: Report) -> Sheet {
     Sheet {
         aliases: aliases,
         number: 0,
+        returns: false,
         held: 0,
-        more: true,
+        sum: no_sum(),
         tally: none(),
         report: r,
     }
+}
+
+// Nothing more is read, since something failed or not.
+fn stopped(s: Sheet, good: bool) -> Sheet {
+    let sum = s.sum;
+    let mut t = s;
+    t.sum = ended(sum, good);
+    t
 }
 
 // Where the line ends that starts at `at`: at the first 0x0A, or at the end of the bytes.
@@ -76,100 +71,99 @@ fn line_end(s: &[u8], at: usize) -> usize
     run_end(s, at, &table, Kind::Text)
 }
 
-// Writes the report so far out, and adds it to the sum.
-pub fn flush(out: &[u8], r: Report) -> Report {
-    let text = part(out, 0, r.at);
-    io::write_all(STDOUT_FILENO, text);
-    let mut sum = r.crc;
-    if r.summed {
-        sum = crc::more(sum, text);
-    }
-    Report {
-        at: 0,
-        summed: r.summed,
-        crc: sum,
-    }
-}
-
-// Writes the report out where little room is left: a line of it has at most six bytes for each byte of the line's words, two for each of
-// its record, and some numbers.
-pub fn flush_full(out: &[u8], r: Report) -> Report {
-    if r.at < 49152 {
-        return r;
-    }
-    flush(out, r)
-}
-
 fn next(n: u64) -> u64 {
     std::num::wrapping_add_u64(n, 1)
 }
 
-// Adds the alias of a line; a refusal is told.
-fn alias_told(session: &mut [u8], line: &[u8], out: &mut [u8], s: Sheet) -> Sheet {
-    let number = next(s.number);
-    let tally = s.tally;
-    let before = s.report;
-    let added = alias_line(session, line);
-    let at = put_alias_told(
-        out,
-        before.at,
-        number,
-        added.refusal,
-        part(line, added.start, added.stop),
-    );
-    Sheet {
-        aliases: true,
-        number: number,
-        held: 0,
-        more: s.more,
-        tally: tally,
-        report: flush_full(out, up_to(before, at)),
-    }
-}
-
-// Runs a line and tells what it came to. The store is long enough for any line that is not too long.
-fn line_told(session: &mut [u8], line: &[u8], out: &mut [u8], s: Sheet) -> Sheet {
-    let number = next(s.number);
-    let tally = s.tally;
-    let before = s.report;
-    let mut store = [0u8; STORE + 1];
-    let reply = line_in(session, line, &mut store);
-    let written = part(&store, 0, reply.count as usize);
-    let at = put_line(out, before.at, number, reply, written);
-    Sheet {
-        aliases: false,
-        number: number,
-        held: 0,
-        more: s.more,
-        tally: tallied(tally, reply, written),
-        report: flush_full(out, up_to(before, at)),
-    }
-}
-
-// The line that is held.
-fn told(session: &mut [u8], line: &[u8], out: &mut [u8], s: Sheet) -> Sheet {
-    let whole = part(line, 0, s.held);
-    if s.aliases {
-        return alias_told(session, whole, out, s);
-    }
-    line_told(session, whole, out, s)
-}
-
-// With so many bytes held.
-fn holding(s: Sheet, held: usize) -> Sheet {
+// One line more is told: what it came to, and where the report then ends.
+fn with_line(
+    s: Sheet,
+    out: &[u8],
+    number: u64,
+    at: usize,
+    returned: bool,
+    reply: LineReply,
+    written: &[u8],
+) -> Sheet {
+    let sum = s.sum;
     let tally = s.tally;
     let report = s.report;
     Sheet {
         aliases: s.aliases,
-        number: s.number,
-        held: held,
-        more: s.more,
-        tally: tally,
-        report: report,
+        number: number,
+        returns: s.returns || returned,
+        held: 0,
+        sum: sum,
+        tally: tallied(tally, reply, written),
+        report: flush_full(out, up_to(report, at)),
     }
 }
 
-// Bytes of a line, held behind those that are, and whether it ends there. A line that is too long keeps as many as show it.
+// A file whose report is not shown is only looked at: it is read no further where a line is no word with a command.
+fn looked_at(s: Sheet, added: Added) -> Sheet {
+    let report = s.report;
+    if report.shown || added.refusal == 0 || added.kind == 1 {
+        return s;
+    }
+    stopped(s, false)
+}
+
+// A line of an alias file is told, if it was refused.
+fn with_alias(line: &[u8], out: &mut [u8], s: Sheet, added: Added) -> Sheet {
+    let number = next(s.number);
+    let refusal = added.refusal;
+    let report = s.report;
+    let word = part(line, added.start, added.stop);
+    let at = put_alias_told(out, report.at, number, refusal, word, line);
+    let reply = LineReply {
+        refusal: refusal,
+        readings: 0,
+        count: 0,
+    };
+    let kind = [added.kind];
+    let t = with_line(s, out, number, at, false, reply, &kind);
+    looked_at(t, added)
+}
+
+// Adds the alias of a line.
+fn alias_told(session: &mut [u8], line: &[u8], out: &mut [u8], s: Sheet) -> Sheet {
+    let added = alias_line(session, line);
+    with_alias(line, out, s, added)
+}
+
+// Whether a line ends in a carriage return, as lines of other systems' files do.
+fn ends_in_return(line: &[u8]) -> bool {
+    byte_at(line, std::num::wrapping_sub_usize(line.len(), 1)) == 0x0D
+}
+
+// Runs a line and tells what it came to; a refused one is shown. The store is long enough for any line that is not too long.
+fn line_told(session: &mut [u8], line: &[u8], out: &mut [u8], s: Sheet) -> Sheet {
+    let number = next(s.number);
+    let mut store = [0u8; STORE + 1];
+    let reply = line_in(session, line, &mut store);
+    let written = part(&store, 0, reply.count as usize);
+    let report = s.report;
+    let at = put_line_told(out, report.at, number, reply, written, session, line);
+    with_line(s, out, number, at, ends_in_return(line), reply, written)
+}
+
+// A line.
+fn told(session: &mut [u8], line: &[u8], out: &mut [u8], s: Sheet) -> Sheet {
+    if s.aliases {
+        return alias_told(session, line, out, s);
+    }
+    line_told(session, line, out, s)
+}
+
+// With so many bytes held.
+fn holding(s: Sheet, held: usize) -> Sheet {
+    let mut t = s;
+    t.held = held;
+    t
+}
+
+// Bytes of a line, and whether it ends there. Where none are held and it does, it is told as it lies; else they are held behind those that
+// are. A line that is too long keeps as many as show it.
 fn taken(
     session: &mut [u8],
     line: &mut [u8],
@@ -178,11 +172,14 @@ fn taken(
     text: &[u8],
     ends: bool,
 ) -> Sheet {
-    let t = holding(s, put_text(line, s.held, text));
-    if ends {
-        return told(session, line, out, t);
+    if ends && s.held == 0 {
+        return told(session, text, out, s);
     }
-    t
+    let held = put_text(line, s.held, text);
+    if ends {
+        return told(session, part(line, 0, held), out, s);
+    }
+    holding(s, held)
 }
 
 // Goes through bytes that were read.
@@ -198,56 +195,70 @@ fn through(session: &mut [u8], line: &mut [u8], out: &mut [u8], s: Sheet, bytes:
     t
 }
 
-// A last line may be held.
+// Nothing is left to read; a last line may be held.
 fn last(session: &mut [u8], line: &[u8], out: &mut [u8], s: Sheet) -> Sheet {
     if s.held > 0 {
-        return told(session, line, out, s);
+        let t = told(session, part(line, 0, s.held), out, s);
+        return stopped(t, true);
     }
-    s
+    stopped(s, true)
 }
 
-// Nothing is left to read.
-fn ended(session: &mut [u8], line: &[u8], out: &mut [u8], s: Sheet) -> Sheet {
-    let t = last(session, line, out, s);
-    let tally = t.tally;
-    let report = t.report;
-    Sheet {
-        aliases: t.aliases,
-        number: t.number,
-        held: 0,
-        more: false,
-        tally: tally,
-        report: report,
+// Goes on only while the report can be written.
+fn while_written(s: Sheet) -> Sheet {
+    let report = s.report;
+    if report.good {
+        return s;
     }
+    stopped(s, false)
 }
 
-// Reads once, and writes out what there is to tell.
-fn turn(fd: i32, session: &mut [u8], line: &mut [u8], out: &mut [u8], s: Sheet) -> Sheet {
+// Bytes that were read: they are added to the sum, and their lines are told.
+fn with_bytes(
+    session: &mut [u8],
+    line: &mut [u8],
+    out: &mut [u8],
+    s: Sheet,
+    bytes: &[u8],
+) -> Sheet {
+    let sum = s.sum;
+    let mut t = s;
+    t.sum = summed(sum, bytes);
+    let u = through(session, line, out, t, bytes);
+    while_written(u)
+}
+
+// Reads once. What cannot be read is told.
+fn turn(
+    fd: i32,
+    name: &[u8],
+    session: &mut [u8],
+    line: &mut [u8],
+    out: &mut [u8],
+    s: Sheet,
+) -> Sheet {
     let mut bytes = io::large_buffer();
-    let n = io::count(libc::read(fd, &mut bytes), &bytes);
+    let got = libc::read(fd, &mut bytes);
+    if got < 0 {
+        let report = s.report;
+        let p = report.program;
+        tell_of(p, name);
+        return stopped(s, false);
+    }
+    let n = io::count(got, &bytes);
     if n == 0 {
-        return ended(session, line, out, s);
+        return last(session, line, out, s);
     }
-    let t = through(session, line, out, s, part(&bytes, 0, n));
-    let tally = t.tally;
-    let report = t.report;
-    Sheet {
-        aliases: t.aliases,
-        number: t.number,
-        held: t.held,
-        more: t.more,
-        tally: tally,
-        report: flush(out, report),
-    }
+    with_bytes(session, line, out, s, part(&bytes, 0, n))
 }
 
-// Runs a whole sheet. A proved loop has to end, so it counts its turns down from a number that no run uses up.
-pub fn run(fd: i32, session: &mut [u8], out: &mut [u8], s: Sheet) -> Sheet {
+// Runs a whole sheet, whose name is for messages. A proved loop has to end, so it counts its turns down from a number that no run uses up.
+pub fn run(fd: i32, name: &[u8], session: &mut [u8], out: &mut [u8], s: Sheet) -> Sheet {
     let mut line = [0u8; LINE + 1];
     let mut turns = u64::MAX;
     let mut t = s;
-    while turns > 0 && t.more {
-        t = turn(fd, session, &mut line, out, t);
+    while turns > 0 && t.sum.more {
+        t = turn(fd, name, session, &mut line, out, t);
         turns -= 1;
     }
     t

@@ -1,8 +1,9 @@
--- `checklist::orders_part::put_all` is safe and ends.
+-- `checklist::orders_part::put_all` meets its contract.
 -- Assumes nothing.
+use mathlib.Core.Path.{_≡_}
 use lib.ListN.{length}
 use Prim.Native.Nat.{_-_}
-use mathlib.Core.Path.{_≡_}
+use Rattle.texts.specs.BehindLaws.{behind-then}
 use borrow.Author.Needs.{needs}
 use Rattle.checklist.proofs.orders_part.put_all.Statement.{statement}
 use Rattle.checklist.proofs.orders_part.put_all.Tie as tie
@@ -38,10 +39,16 @@ up-to-requires : tie.Need-up-to-requires Inv-loop μ-loop
 up-to-requires c κs = search needs
 
 same-length : tie.Need-same-length Inv-loop μ-loop
-same-length c = search needs
+same-length c = search (needs, behind-then)
 
 returns : tie.Need-returns Inv-loop μ-loop
-returns c = search needs
+returns c = search (needs, behind-then)
+
+same-length-2 : tie.Need-same-length-2 Inv-loop μ-loop
+same-length-2 c = search (needs, behind-then)
+
+returns-2 : tie.Need-returns-2 Inv-loop μ-loop
+returns-2 c = search (needs, behind-then)
 
 pub put-all-spec : {M : Type 1} → statement M
 put-all-spec =
@@ -58,4 +65,6 @@ put-all-spec =
     put-total-requires
     up-to-requires
     same-length
-    returns)
+    returns
+    same-length-2
+    returns-2)

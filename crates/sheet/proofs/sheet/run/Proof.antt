@@ -9,10 +9,10 @@ use Rattle.sheet.proofs.sheet.run.Statement.{statement}
 use Rattle.sheet.proofs.sheet.run.Tie as tie
 
 abbrev Inv-loop : tie.InvT-loop
-Inv-loop fd session₀ out₀ line₀ turns₀ t₀ session out line turns t = (length session ≡ length session₀) × (length out ≡ length out₀) × (lineLimit + 1 ≡ length line)
+Inv-loop fd name session₀ out₀ line₀ turns₀ t₀ session out line turns t = (length session ≡ length session₀) × (length out ≡ length out₀) × (lineLimit + 1 ≡ length line)
 
 abbrev μ-loop : tie.MeasureT-loop
-μ-loop fd session₀ out₀ line₀ turns₀ t₀ session out line turns t = turns
+μ-loop fd name session₀ out₀ line₀ turns₀ t₀ session out line turns t = turns
 
 loop-holds : tie.Need-loop-holds Inv-loop μ-loop
 loop-holds c = search needs
