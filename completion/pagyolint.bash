@@ -7,7 +7,7 @@ _pagyolint() {
     # What stands before the word: how many operands, whether -- has ended the options, and whether -a waits for its file.
     for ((i = 1; i < COMP_CWORD; i++)); do
         case $ended${COMP_WORDS[i]} in
-        -a | --aliases)
+        -a)
             i=$((i + 1))
             if [[ $i == "$COMP_CWORD" ]]; then
                 mapfile -t COMPREPLY < <(compgen -f -- "$word")
