@@ -55,13 +55,22 @@ pub fn put_text(out: &mut [u8], at: usize, s: &[u8]) -> usize
     at + n
 }
 
-// A number in decimal.
+// A number in decimal. Most have one digit.
 pub fn put_decimal(out: &mut [u8], at: usize, n: u64) -> usize
     ensures { λ r. ⌜ Behind (now (out .entry)) (now (out .exit)) at r ⌝ }
 {
+    if n < 10 {
+        return put_byte(out, at, 0x30 + n as u8);
+    }
     let mut digits = [0u8; 20];
-    let k = io::decimal(n, &mut digits);
-    put_text(out, at, &digits[..k])
+    let mut i: usize = 20;
+    let mut left = n;
+    while i > 0 && left > 0 {
+        i -= 1;
+        digits[i] = 0x30 + (left % 10) as u8;
+        left = left / 10;
+    }
+    put_text(out, at, &digits[i..])
 }
 
 fn digit(n: u8) -> u8

@@ -94,8 +94,21 @@ fn put_one(out: &mut [u8], at: usize, s: &[u8], i: usize) -> Piece
     put_character(out, at, &s[i..end], end)
 }
 
-// A text without quotes. Control characters, and bytes that are part of no character, are escaped.
-pub fn put_shown(out: &mut [u8], at: usize, s: &[u8]) -> usize
+// Whether each byte of a text is a character of one column, shown as it is.
+fn is_plain(s: &[u8]) -> bool {
+    let mut i: usize = 0;
+    while i < s.len() {
+        let b = s[i];
+        if b < 0x20 || 0x7E < b {
+            return false;
+        }
+        i += 1;
+    }
+    true
+}
+
+// A text without quotes, character by character.
+fn put_pieces(out: &mut [u8], at: usize, s: &[u8]) -> usize
     ensures { λ r. ⌜ Behind (now (out .entry)) (now (out .exit)) at r ⌝ }
 {
     let mut to = at;
@@ -106,6 +119,16 @@ pub fn put_shown(out: &mut [u8], at: usize, s: &[u8]) -> usize
         i = one.next;
     }
     to
+}
+
+// A text without quotes. Control characters, and bytes that are part of no character, are escaped.
+pub fn put_shown(out: &mut [u8], at: usize, s: &[u8]) -> usize
+    ensures { λ r. ⌜ Behind (now (out .entry)) (now (out .exit)) at r ⌝ }
+{
+    if is_plain(s) {
+        return put_text(out, at, s);
+    }
+    put_pieces(out, at, s)
 }
 
 // How the character at a position would be shown.
@@ -140,9 +163,8 @@ fn put_under(out: &mut [u8], line: Under, i: usize, one: Piece, start: usize, st
     }
 }
 
-// The line under a shown text that marks the part from `start` up to `stop`: a space for each column before it, a mark for each in it. A
-// part without columns has one mark. A character that an end of the part cuts is in it.
-pub fn put_marked(out: &mut [u8], at: usize, s: &[u8], start: usize, stop: usize) -> usize
+// The line under a shown text, character by character.
+fn put_marks(out: &mut [u8], at: usize, s: &[u8], start: usize, stop: usize) -> usize
     ensures { λ r. ⌜ Behind (now (out .entry)) (now (out .exit)) at r ⌝ }
 {
     let mut line = Under { at: at, marks: at };
@@ -156,4 +178,16 @@ pub fn put_marked(out: &mut [u8], at: usize, s: &[u8], start: usize, stop: usize
         return line.at;
     }
     put_byte(out, line.at, 0x5E)
+}
+
+// The line under a shown text that marks the part from `start` up to `stop`: a space for each column before it, a mark for each in it. A
+// part without columns has one mark. A character that an end of the part cuts is in it.
+pub fn put_marked(out: &mut [u8], at: usize, s: &[u8], start: usize, stop: usize) -> usize
+    ensures { λ r. ⌜ Behind (now (out .entry)) (now (out .exit)) at r ⌝ }
+{
+    if start < stop && stop <= s.len() && is_plain(s) {
+        let i = put_repeated(out, at, 0x20, start);
+        return put_repeated(out, i, 0x5E, stop - start);
+    }
+    put_marks(out, at, s, start, stop)
 }

@@ -1,12 +1,12 @@
--- `texts::shown::put_shown` meets its contract.
+-- `texts::shown::put_pieces` meets its contract.
 -- Assumes nothing.
 use borrow.Author.Needs.{needs}
 use Prim.Native.Nat.{_-_}
 use lib.ListN.{length}
 use Rattle.texts.specs.Behind.{Behind}
 use Rattle.texts.specs.BehindLaws.{behind-none, behind-then}
-use Rattle.texts.proofs.shown.put_shown.Statement.{statement}
-use Rattle.texts.proofs.shown.put_shown.Tie as tie
+use Rattle.texts.proofs.shown.put_pieces.Statement.{statement}
+use Rattle.texts.proofs.shown.put_pieces.Tie as tie
 
 abbrev Inv-loop : tie.InvT-loop
 Inv-loop out₀ at s to₀ i₀ out to i = Behind out₀ out at to
@@ -32,7 +32,7 @@ same-length c = search needs
 returns : tie.Need-returns Inv-loop μ-loop
 returns c = search needs
 
-pub put-shown-spec : {M : Type 1} → statement M
-put-shown-spec =
+pub put-pieces-spec : {M : Type 1} → statement M
+put-pieces-spec =
     tie.close
     (tie.spec Inv-loop μ-loop loop-holds put-one-requires loop-less loop-again same-length returns)
