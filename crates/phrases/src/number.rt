@@ -33,7 +33,7 @@ fn no_number(next: usize) -> NumberRead {
 }
 
 // The number at a place: groups of seven bits, low group first, 0x80 set on all but the last.
-pub fn number(record: &[u8], from: usize) -> NumberRead {
+fn groups(record: &[u8], from: usize) -> NumberRead {
     let mut value: u64 = 0;
     let mut shift: u64 = 0;
     let mut i = from;
@@ -50,6 +50,21 @@ pub fn number(record: &[u8], from: usize) -> NumberRead {
         shift += 7;
     }
     no_number(i)
+}
+
+// The number at a place. Most have one group.
+pub fn number(record: &[u8], from: usize) -> NumberRead {
+    if from < record.len() {
+        let b = record[from];
+        if b < 128 {
+            return NumberRead {
+                value: wide(b),
+                next: from + 1,
+                good: true,
+            };
+        }
+    }
+    groups(record, from)
 }
 
 // The bytes of a name that stands alone.

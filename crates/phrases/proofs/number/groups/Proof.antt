@@ -1,9 +1,9 @@
--- `phrases::number::number` is safe and ends.
+-- `phrases::number::groups` is safe and ends.
 -- Assumes nothing.
 use borrow.Author.Needs.{needs}
 use Prim.Native.Nat.{_-_, _≤_}
-use Rattle.phrases.proofs.number.number.Statement.{statement}
-use Rattle.phrases.proofs.number.number.Tie as tie
+use Rattle.phrases.proofs.number.groups.Statement.{statement}
+use Rattle.phrases.proofs.number.groups.Tie as tie
 
 abbrev Inv-loop : tie.InvT-loop
 Inv-loop «record» from value₀ shift₀ i₀ value shift i = shift ≤ 70
@@ -53,8 +53,8 @@ no-number-requires-2 c κs = search needs
 returns-3 : tie.Need-returns-3 Inv-loop μ-loop
 returns-3 c = search needs
 
-pub number-spec : {M : Type 1} → statement M
-number-spec =
+pub groups-spec : {M : Type 1} → statement M
+groups-spec =
     tie.close
     (tie.spec
     Inv-loop
