@@ -23,52 +23,89 @@ fn put_limit(out: &mut [u8], at: usize, before: &[u8], limit: u64, behind: &[u8]
     put_text(out, j, behind)
 }
 
-// The one home of the words: a case that has none is an error.
+// A line that is too long.
+fn put_line_limit(out: &mut [u8], at: usize) -> usize
+    ensures { λ r. ⌜ Behind (now (out .entry)) (now (out .exit)) at r ⌝ }
+{
+    put_limit(out, at, b"the line is longer than ", LINE as u64, b" bytes")
+}
+
+// A number that is too large.
+fn put_number_limit(out: &mut [u8], at: usize) -> usize
+    ensures { λ r. ⌜ Behind (now (out .entry)) (now (out .exit)) at r ⌝ }
+{
+    put_limit(out, at, b"a number is above ", MOST, b"")
+}
+
+// A sum that is too large.
+fn put_sum_limit(out: &mut [u8], at: usize) -> usize
+    ensures { λ r. ⌜ Behind (now (out .entry)) (now (out .exit)) at r ⌝ }
+{
+    put_limit(out, at, b"a sum of offsets is above ", MOST, b"")
+}
+
+// An alias that is none.
+fn put_alias_limit(out: &mut [u8], at: usize) -> usize
+    ensures { λ r. ⌜ Behind (now (out .entry)) (now (out .exit)) at r ⌝ }
+{
+    put_limit(
+        out,
+        at,
+        b"the alias is not 1 to ",
+        WORD as u64,
+        b" word characters",
+    )
+}
+
+// A command that there is not.
+fn put_command_limit(out: &mut [u8], at: usize) -> usize
+    ensures { λ r. ⌜ Behind (now (out .entry)) (now (out .exit)) at r ⌝ }
+{
+    put_limit(
+        out,
+        at,
+        b"the command's number is above ",
+        LAST_COMMAND as u64,
+        b"",
+    )
+}
+
+// An alias too many.
+fn put_aliases_limit(out: &mut [u8], at: usize) -> usize
+    ensures { λ r. ⌜ Behind (now (out .entry)) (now (out .exit)) at r ⌝ }
+{
+    put_limit(
+        out,
+        at,
+        b"there are ",
+        ALIASES as u64,
+        b" aliases, and no place for a new one",
+    )
+}
+
+// The one home of the words: a case that has none is an error. A text is made anew where the function starts that has it, so those about a
+// limit have functions of their own.
 fn put_words(out: &mut [u8], at: usize, x: Refusal) -> usize
     ensures { λ r. ⌜ Behind (now (out .entry)) (now (out .exit)) at r ⌝ }
 {
     match x {
-        Refusal::LineTooLong => {
-            put_limit(out, at, b"the line is longer than ", LINE as u64, b" bytes")
-        }
+        Refusal::LineTooLong => put_line_limit(out, at),
         Refusal::NotUtf8 => put_text(out, at, b"the line is not UTF-8"),
         Refusal::ParseFailed => put_text(
             out,
             at,
             b"the line, or a list or range in it, does not parse",
         ),
-        Refusal::NumberTooLarge => put_limit(out, at, b"a number is above ", MOST, b""),
+        Refusal::NumberTooLarge => put_number_limit(out, at),
         Refusal::InvalidArgument => put_text(out, at, b"the command does not take this argument"),
         Refusal::InvalidRange => put_text(out, at, b"the command does not take this range"),
-        Refusal::SumTooLarge => put_limit(out, at, b"a sum of offsets is above ", MOST, b""),
-        Refusal::BadAlias => {
-            put_limit(
-                out,
-                at,
-                b"the alias is not 1 to ",
-                WORD as u64,
-                b" word characters",
-            )
-        }
-        Refusal::BadCommand => {
-            put_limit(
-                out,
-                at,
-                b"the command's number is above ",
-                LAST_COMMAND as u64,
-                b"",
-            )
-        }
+        Refusal::SumTooLarge => put_sum_limit(out, at),
+        Refusal::BadAlias => put_alias_limit(out, at),
+        Refusal::BadCommand => put_command_limit(out, at),
         Refusal::UnknownWord => put_text(out, at, b"no command has this word"),
         Refusal::Unimplemented => put_text(out, at, b"the command is not implemented"),
         Refusal::StoreTooShort => put_text(out, at, b"the store is too short"),
-        Refusal::AliasesFull => put_limit(
-            out,
-            at,
-            b"there are ",
-            ALIASES as u64,
-            b" aliases, and no place for a new one",
-        ),
+        Refusal::AliasesFull => put_aliases_limit(out, at),
         Refusal::NotASession => put_text(out, at, b"the bytes are not a session"),
     }
 }

@@ -91,13 +91,34 @@ fn change(record: &[u8], out: &mut [u8], s: Step) -> Step
     }
 }
 
-// Close, of a window or a tab.
+// Close, of a window or a tab, by its texts.
 fn close(record: &[u8], out: &mut [u8], s: Step, single: &[u8], but: &[u8], all: &[u8]) -> Step
     ensures { λ r. ⌜ Behind (now (out .entry)) (now (out .exit)) (s .at) (r .at) ⌝ }
 {
     let t = said(out, s, b"close ");
     let u = window_or_tab(record, out, t, single, but, all);
     flags(record, out, u, b", quit", b", force")
+}
+
+// Close of a window.
+fn close_window(record: &[u8], out: &mut [u8], s: Step) -> Step
+    ensures { λ r. ⌜ Behind (now (out .entry)) (now (out .exit)) (s .at) (r .at) ⌝ }
+{
+    close(
+        record,
+        out,
+        s,
+        b"window ",
+        b"all windows but ",
+        b"all windows",
+    )
+}
+
+// Close of a tab.
+fn close_tab(record: &[u8], out: &mut [u8], s: Step) -> Step
+    ensures { λ r. ⌜ Behind (now (out .entry)) (now (out .exit)) (s .at) (r .at) ⌝ }
+{
+    close(record, out, s, b"tab ", b"all tabs but ", b"all tabs")
 }
 
 // Resize.
@@ -187,6 +208,13 @@ fn split(record: &[u8], out: &mut [u8], s: Step) -> Step
     times(record, out, u)
 }
 
+// Switch.
+fn switch(record: &[u8], out: &mut [u8], s: Step) -> Step
+    ensures { λ r. ⌜ Behind (now (out .entry)) (now (out .exit)) (s .at) (r .at) ⌝ }
+{
+    opened(record, out, s, b"switch to ")
+}
+
 // Write.
 fn write(record: &[u8], out: &mut [u8], s: Step) -> Step
     ensures { λ r. ⌜ Behind (now (out .entry)) (now (out .exit)) (s .at) (r .at) ⌝ }
@@ -211,7 +239,21 @@ fn open_tab(record: &[u8], out: &mut [u8], s: Step) -> Step
     focus_behind(record, out, t, b", at ")
 }
 
-// A record, by its kind.
+// Focus of a tab.
+fn focus_tab(record: &[u8], out: &mut [u8], s: Step) -> Step
+    ensures { λ r. ⌜ Behind (now (out .entry)) (now (out .exit)) (s .at) (r .at) ⌝ }
+{
+    focus_behind(record, out, s, b"focus tab ")
+}
+
+// Move of a tab.
+fn move_tab(record: &[u8], out: &mut [u8], s: Step) -> Step
+    ensures { λ r. ⌜ Behind (now (out .entry)) (now (out .exit)) (s .at) (r .at) ⌝ }
+{
+    focus_behind(record, out, s, b"move tab to ")
+}
+
+// A record, by its kind. A text is made anew where the function starts that has it, so each kind has a function of its own.
 fn action(record: &[u8], out: &mut [u8], s: Step) -> Step
     ensures { λ r. ⌜ Behind (now (out .entry)) (now (out .exit)) (s .at) (r .at) ⌝ }
 {
@@ -220,22 +262,15 @@ fn action(record: &[u8], out: &mut [u8], s: Step) -> Step
     let v = n.value;
     match v {
         0 => said(out, t, b"nothing"),
-        1 => close(
-            record,
-            out,
-            t,
-            b"window ",
-            b"all windows but ",
-            b"all windows",
-        ),
+        1 => close_window(record, out, t),
         2 => resize(record, out, t),
         3 => open(record, out, t),
         4 => split(record, out, t),
-        5 => opened(record, out, t, b"switch to "),
+        5 => switch(record, out, t),
         6 => write(record, out, t),
-        7 => close(record, out, t, b"tab ", b"all tabs but ", b"all tabs"),
-        8 => focus_behind(record, out, t, b"focus tab "),
-        9 => focus_behind(record, out, t, b"move tab to "),
+        7 => close_tab(record, out, t),
+        8 => focus_tab(record, out, t),
+        9 => move_tab(record, out, t),
         10 => open_tab(record, out, t),
         _ => bad(t),
     }

@@ -17,17 +17,8 @@ slice-aggregate-said c = search needs
 said-requires : tie.Need-said-requires
 said-requires c κs = search needs
 
-slice-aggregate-close : tie.Need-slice-aggregate-close
-slice-aggregate-close c = search needs
-
-slice-aggregate-close-2 : tie.Need-slice-aggregate-close-2
-slice-aggregate-close-2 c = search needs
-
-slice-aggregate-close-3 : tie.Need-slice-aggregate-close-3
-slice-aggregate-close-3 c = search needs
-
-close-requires : tie.Need-close-requires
-close-requires c κs = search needs
+close-window-requires : tie.Need-close-window-requires
+close-window-requires c κs = search needs
 
 resize-requires : tie.Need-resize-requires
 resize-requires c κs = search needs
@@ -38,38 +29,20 @@ open-requires c κs = search needs
 split-requires : tie.Need-split-requires
 split-requires c κs = search needs
 
-slice-aggregate-opened : tie.Need-slice-aggregate-opened
-slice-aggregate-opened c = search needs
-
-opened-requires : tie.Need-opened-requires
-opened-requires c κs = search needs
+switch-requires : tie.Need-switch-requires
+switch-requires c κs = search needs
 
 write-requires : tie.Need-write-requires
 write-requires c κs = search needs
 
-slice-aggregate-close-4 : tie.Need-slice-aggregate-close-4
-slice-aggregate-close-4 c = search needs
+close-tab-requires : tie.Need-close-tab-requires
+close-tab-requires c κs = search needs
 
-slice-aggregate-close-5 : tie.Need-slice-aggregate-close-5
-slice-aggregate-close-5 c = search needs
+focus-tab-requires : tie.Need-focus-tab-requires
+focus-tab-requires c κs = search needs
 
-slice-aggregate-close-6 : tie.Need-slice-aggregate-close-6
-slice-aggregate-close-6 c = search needs
-
-close-requires-2 : tie.Need-close-requires-2
-close-requires-2 c κs = search needs
-
-slice-aggregate-focus-behind : tie.Need-slice-aggregate-focus-behind
-slice-aggregate-focus-behind c = search needs
-
-focus-behind-requires : tie.Need-focus-behind-requires
-focus-behind-requires c κs = search needs
-
-slice-aggregate-focus-behind-2 : tie.Need-slice-aggregate-focus-behind-2
-slice-aggregate-focus-behind-2 c = search needs
-
-focus-behind-requires-2 : tie.Need-focus-behind-requires-2
-focus-behind-requires-2 c κs = search needs
+move-tab-requires : tie.Need-move-tab-requires
+move-tab-requires c κs = search needs
 
 open-tab-requires : tie.Need-open-tab-requires
 open-tab-requires c κs = search needs
@@ -154,24 +127,15 @@ action-spec =
     past-requires
     slice-aggregate-said
     said-requires
-    slice-aggregate-close
-    slice-aggregate-close-2
-    slice-aggregate-close-3
-    close-requires
+    close-window-requires
     resize-requires
     open-requires
     split-requires
-    slice-aggregate-opened
-    opened-requires
+    switch-requires
     write-requires
-    slice-aggregate-close-4
-    slice-aggregate-close-5
-    slice-aggregate-close-6
-    close-requires-2
-    slice-aggregate-focus-behind
-    focus-behind-requires
-    slice-aggregate-focus-behind-2
-    focus-behind-requires-2
+    close-tab-requires
+    focus-tab-requires
+    move-tab-requires
     open-tab-requires
     bad-requires
     same-length
