@@ -1,4 +1,4 @@
--- Bytes that are 0 passed, and the table by which eight bytes are passed at a time: what up to eight such bytes make of each byte.
+-- Bytes that are 0 passed, and the table by which sixteen bytes are passed at a time: what up to sixteen such bytes make of each byte.
 -- Assumes nothing.
 use mathlib.Core.Path.{_≡_}
 use mathlib.Core.List.{List}

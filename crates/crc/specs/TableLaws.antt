@@ -1,12 +1,12 @@
 -- Laws of CRC-32 by a table. It is linear: the number of an exclusive or is the exclusive or of the numbers. So a byte is an entry of the
--- table and a shift, and bytes are one number, passed at once. Assumes nothing.
+-- table and a shift, bytes are one number, passed at once, and a number is passed byte by byte of it. Assumes nothing.
 use mathlib.Core.Path.{_≡_, refl, sym, ap, ap₂, _∙_}
 use mathlib.Core.Bool.{cond}
 use mathlib.Core.List.{List, [], _∷_, _++_}
-use Prim.Native.Nat.{ℕ, zero, suc, _+_, _-_, _*_, _/_, _%_, _<_, _≤_}
+use Prim.Native.Nat.{ℕ, zero, suc, _+_, _-_, _*_, _^_, _/_, _%_, _<_, _≤_}
 use native.Mathlib.Numerals.{add-one}
 use native.Mathlib.Omega.{arith}
-use lib.Bits.{bitXor, differ}
+use lib.Bits.{bitXor, differ, xor-comm, xor-lt}
 use lib.Dec.{eqb}
 use lib.ListN.{length, getD, take, drop, set, take-append-drop}
 use lib.Seq.{drop-drop, getD-drop, getD-take, getD-set-same, getD-set-other}
@@ -48,6 +48,13 @@ bit-xor a b =
 bit-twice : (a : ℕ) → crcBit (a * 2) ≡ a
 bit-twice a = bit-even (a * 2) (λ e. omega arith) ∙ omega arith
 
+-- a number of 32 bits stays one
+bit-lt : (c : ℕ) → c < 2 ^ 32 → crcBit c < 2 ^ 32
+unfolding pick
+bit-lt c h =
+    rw (bit-pick c)
+    (by-digit (λ x. pick 0xEDB88320 x (c / 2) < 2 ^ 32) (omega arith) (xor-lt 32 0xEDB88320 (c / 2) (omega arith) (omega arith)) (c % 2) (omega arith))
+
 -- a byte that is 0 ---------------------------------------------------------------------------------------------------------
 
 -- eight bits passed
@@ -76,6 +83,11 @@ byte-shift a = let e : a * 256 ≡ a * 2 * 2 * 2 * 2 * 2 * 2 * 2 * 2 = omega ari
 byte-parts : (c : ℕ) → crcByte c 0 ≡ bitXor (crcByte (c % 256) 0) (c / 256)
 byte-parts c = ap (λ x. crcByte x 0) (xor-parts c) ∙ byte-xor (c % 256) (c / 256 * 256) ∙ ap (bitXor (crcByte (c % 256) 0)) (byte-shift (c / 256))
 
+-- and leaves it a number of 32 bits
+pub byte-lt : (c : ℕ) → c < 2 ^ 32 → crcByte c 0 < 2 ^ 32
+unfolding crcByte
+byte-lt c h = bit-lt _ (bit-lt _ (bit-lt _ (bit-lt _ (bit-lt _ (bit-lt _ (bit-lt _ (bit-lt c h)))))))
+
 -- bytes that are 0 ---------------------------------------------------------------------------------------------------------
 
 passed-xor : (k a b : ℕ) → passed k (bitXor a b) ≡ bitXor (passed k a) (passed k b)
@@ -87,12 +99,37 @@ passed-shift : (k a : ℕ) → passed (suc k) (a * 256) ≡ passed k a
 unfolding passed
 passed-shift k a = ap (passed k) (byte-shift a)
 
+-- what k + 1 bytes that are 0 make of the low byte of a number: an entry of the table
+abbrev low : ℕ → ℕ → ℕ
+low k x = passed (k + 1) (x % 256)
+
 -- what they make of a number, by its low byte and the others
-pub passed-parts : (k x : ℕ) → passed (suc k) x ≡ bitXor (passed (suc k) (x % 256)) (passed k (x / 256))
+passed-parts : (k x : ℕ) → passed (suc k) x ≡ bitXor (passed (suc k) (x % 256)) (passed k (x / 256))
 passed-parts k x =
     ap (passed (suc k)) (xor-parts x)
     ∙ passed-xor (suc k) (x % 256) (x / 256 * 256)
     ∙ ap (bitXor (passed (suc k) (x % 256))) (passed-shift k (x / 256))
+
+-- the same of k + j + 1 bytes
+passed-low : (k j x : ℕ) → passed (k + (j + 1)) x ≡ bitXor (low (k + j) x) (passed (k + j) (x / 256))
+passed-low k j x = let e : k + (j + 1) ≡ k + j + 1 = omega arith in rw (e, add-one (k + j)) (passed-parts (k + j) x)
+
+-- what k + 8 bytes that are 0 make of a number of 64 bits, by its bytes
+pub passed-eight : (k x : ℕ) → x < 2 ^ 64 →
+    passed (k + 8) x
+    ≡ bitXor
+    (bitXor (bitXor (low (k + 7) x) (low (k + 6) (x / 256))) (bitXor (low (k + 5) (x / 256 / 256)) (low (k + 4) (x / 256 / 256 / 256))))
+    (bitXor
+    (bitXor (low (k + 3) (x / 256 / 256 / 256 / 256)) (low (k + 2) (x / 256 / 256 / 256 / 256 / 256)))
+    (bitXor (low (k + 1) (x / 256 / 256 / 256 / 256 / 256 / 256)) (low k (x / 256 / 256 / 256 / 256 / 256 / 256 / 256))))
+passed-eight k x h =
+    let last : x / 256 / 256 / 256 / 256 / 256 / 256 / 256 % 256 ≡ x / 256 / 256 / 256 / 256 / 256 / 256 / 256 = omega arith in
+    simp xor-assoc (rw (last, passed-low k 7 x, passed-low k 6, passed-low k 5, passed-low k 4, passed-low k 3, passed-low k 2, passed-low k 1))
+
+-- twice eight
+passed-twice : (c : ℕ) → passed 8 (passed 8 c) ≡ passed 16 c
+unfolding passed
+passed-twice c = refl
 
 -- one more, behind the others
 passed-last : (k c : ℕ) → passed (suc k) c ≡ crcByte (passed k c) 0
@@ -120,7 +157,7 @@ from-number c (b ∷ bs) h =
     ∙ ap (λ x. crcByte x 0) (sym (xor-assoc (numberOf bs * 256) b c) ∙ ap (λ x. bitXor x c) (xor-above (numberOf bs) b (h 0 (omega arith)))))
 
 -- eight bytes of a text
-pub from-eight : (d : ℕ) (s : List ℕ) (i : ℕ) → i + 8 ≤ length s → ((j : ℕ) → getD s j 0 < 256) →
+from-eight : (d : ℕ) (s : List ℕ) (i : ℕ) → i + 8 ≤ length s → ((j : ℕ) → getD s j 0 < 256) →
     crcFrom d (drop i s) ≡ crcFrom (passed 8 (bitXor (numberOf (partOf s i (i + 8))) d)) (drop (i + 8) s)
 from-eight d s i h b =
     let p = partOf s i (i + 8) in
@@ -130,6 +167,21 @@ from-eight d s i h b =
     ap (crcFrom d) (sym (take-append-drop (i + 8 - i) (drop i s)) ∙ ap (λ r. p ++ r) (drop-drop (i + 8 - i) i s))
     ∙ from-append d p (drop (i + (i + 8 - i)) s)
     ∙ ap₂ crcFrom (from-number d p within ∙ ap (λ k. passed k (bitXor (numberOf p) d)) l) (ap (λ k. drop (i + k) s) n)
+
+-- sixteen: the first eight with eight more behind them, and the others
+pub from-sixteen : (d : ℕ) (s : List ℕ) (i : ℕ) → i + 16 ≤ length s → ((j : ℕ) → getD s j 0 < 256) →
+    crcFrom d (drop i s)
+    ≡ crcFrom
+    (bitXor (passed 16 (bitXor (numberOf (partOf s i (i + 8))) d)) (passed 8 (numberOf (partOf s (i + 8) (i + 8 + 8)))))
+    (drop (i + 16) s)
+from-sixteen d s i h b =
+    let x = bitXor (numberOf (partOf s i (i + 8))) d in
+    let y = numberOf (partOf s (i + 8) (i + 8 + 8)) in
+    let e : i + 8 + 8 ≡ i + 16 = omega arith in
+    from-eight d s i (omega arith) b
+    ∙ from-eight (passed 8 x) s (i + 8) (omega arith) b
+    ∙ ap₂ crcFrom (passed-xor 8 y (passed 8 x) ∙ xor-comm (passed 8 y) (passed 8 (passed 8 x)) ∙ ap (λ z. bitXor z (passed 8 y)) (passed-twice x))
+    (ap (λ j. drop j s) e)
 
 -- the entries of the table ---------------------------------------------------------------------------------------------------
 

@@ -3,14 +3,14 @@ mod bits;
 mod table;
 
 use bits::bytes_from;
-use table::by_eight;
+use table::by_sixteen;
 use table::table;
 ghost use mathlib.Core.Path.{_≡_};
 ghost use lib.Bits.{bitXor};
 ghost use Rattle.crc.specs.Crc.{crcFrom};
 
-// How long a text must be for the table to be made, which takes as long as some 300 bytes bit by bit.
-const LONG: usize = 512;
+// How long a text must be for the table to be made, which takes as long as some 600 bytes bit by bit.
+const LONG: usize = 1024;
 
 // What no byte has made of it.
 pub fn start() -> u64
@@ -27,7 +27,7 @@ pub fn more(c: u64, s: &[u8]) -> u64
         return bytes_from(c, s, 0);
     }
     let t = table();
-    by_eight(c, s, &t)
+    by_sixteen(c, s, &t)
 }
 
 // The number that stands for all of them.

@@ -1,6 +1,6 @@
 -- `table::entry_of` meets its contract.
 -- Assumes nothing.
-use Rattle.crc.specs.TableLaws.{entry-low, entry-on}
+use Rattle.crc.specs.TableLaws.{byte-lt, entry-low, entry-on}
 use Rattle.crc.specs.Table.{entryOf}
 use Prim.Native.Nat.{_-_, _%_}
 use mathlib.Core.Path.{sym}
@@ -11,6 +11,9 @@ use Rattle.crc.proofs.table.entry_of.Tie as tie
 byte-requires : tie.Need-byte-requires
 byte-requires c κs = search needs
 
+cast-result : tie.Need-cast-result
+cast-result c = search (needs, byte-lt (c .before .before .args .i) (search needs))
+
 returns : tie.Need-returns
 returns c = cc (entry-low (c .before .before .args .i) (search needs))
 
@@ -19,6 +22,9 @@ mul-v c = search needs
 
 element-copy-out-v : tie.Need-element-copy-out-v
 element-copy-out-v c = search needs
+
+cast-result-2 : tie.Need-cast-result-2
+cast-result-2 c = search needs
 
 mul-result : tie.Need-mul-result
 mul-result c = search needs
@@ -39,9 +45,11 @@ entry-of-spec =
     tie.close
     (tie.spec
     byte-requires
+    cast-result
     returns
     mul-v
     element-copy-out-v
+    cast-result-2
     mul-result
     element-copy-out-result
     returns-2)

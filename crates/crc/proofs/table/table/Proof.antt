@@ -11,10 +11,10 @@ use Rattle.crc.proofs.table.table.Statement.{statement}
 use Rattle.crc.proofs.table.table.Tie as tie
 
 abbrev Inv-loop : tie.InvT-loop
-Inv-loop t₀ i₀ t i = (i ≤ 2048) × (length t ≡ 2048) × Entries t i
+Inv-loop t₀ i₀ t i = (i ≤ 4096) × (length t ≡ 4096) × Entries t i
 
 abbrev μ-loop : tie.MeasureT-loop
-μ-loop t₀ i₀ t i = 2048 - i
+μ-loop t₀ i₀ t i = 4096 - i
 
 loop-holds : tie.Need-loop-holds Inv-loop μ-loop
 loop-holds c = (search needs, search needs, below-none _)
