@@ -110,7 +110,8 @@ fn lead_word(s: &[u8], a: usize, b: usize, c: usize, d: usize, classes: &[u8; 25
     }
 }
 
-fn lead_of(s: &[u8], classes: &[u8; 256]) -> Lead
+// The lead of a line.
+pub fn lead_of(s: &[u8], classes: &[u8; 256]) -> Lead
     requires { ⌜ Classes (now classes) ⌝ }
     ensures { λ r. ⌜ r ≡ leadOf (now (s .entry)) ⌝ }
 {

@@ -3,7 +3,7 @@
 use mathlib.Core.Path.{_≡_}
 use mathlib.Core.Bool.{true}
 use mathlib.Core.List.{List}
-use Prim.Native.Nat.{ℕ, _-_, _≤_}
+use Prim.Native.Nat.{ℕ, _-_}
 use Rattle.scan.specs.Scan.{partOf}
 use Rattle.words.specs.Words.{Row}
 use Rattle.context.specs.Context.{fresh}
@@ -12,7 +12,6 @@ use Rattle.commands.specs.Run.{Out, lineFrom}
 use Rattle.run.specs.Reply.{after}
 use Rattle.run.specs.Held.{Held}
 use Rattle.spots.specs.declared.spot.Spot.{Spot}
-use Rattle.spots.specs.declared.text.Text.{Text}
 
 -- after n readings of the line, each of them of a prefix, its run goes on with the text from f up to t, in some context
 pub record Reached (table : List Row) (line : List ℕ) (n f t : ℕ) : Type 0 where
@@ -20,12 +19,12 @@ pub record Reached (table : List Row) (line : List ℕ) (n f t : ℕ) : Type 0 w
   pub stop : ℕ
   pub held : Held table line context n f t stop
 
--- the text of the last of m readings; there is none only where the line has another number of readings
-abbrev pub LastText : List Row → List ℕ → ℕ → Text → Type 0
-LastText table line m (Text.At f t) = (1 ≤ m) × Reached table line (m - 1) f t
-LastText table line m Text.Absent = lineFrom table fresh line .readings ≡ m → ⊥
+-- where a line has m readings, with whatever words, the last of them read the text from f up to t
+abbrev pub LastText : List ℕ → ℕ → ℕ → ℕ → Type 0
+LastText line m f t = (table : List Row) → lineFrom table fresh line .readings ≡ m → Reached table line (m - 1) f t
 
 -- where the line ends after m readings with a word that no command has, the place r is that of the word
-abbrev pub UnknownAt : List Row → List ℕ → ℕ → Spot → Type 0
-UnknownAt table line m r =
-    (w : List ℕ) → lineFrom table fresh line ≡ after m (Out.unknown w) → (r .found ≡ true) × (partOf line (r .start) (r .stop) ≡ w)
+abbrev pub UnknownAt : List ℕ → ℕ → Spot → Type 0
+UnknownAt line m r =
+    (table : List Row) (w : List ℕ) →
+    lineFrom table fresh line ≡ after m (Out.unknown w) → (r .found ≡ true) × (partOf line (r .start) (r .stop) ≡ w)

@@ -4,136 +4,93 @@ use super::bytes::trimmed;
 use super::spot::Spot;
 use super::spot::between;
 use super::spot::nowhere;
-use commands::handle::handle;
-use context::context::CommandContext;
-use handlers::done::Done;
-use layout::lookup::find_word;
+use layout::lookup::words_of;
+use limits::LINE;
+use limits::STORE;
 use limits::refusal::Refusal;
 use limits::refusal::number;
-use ranges::range::RangeRead;
-use reading::line::CommandDescription;
-use reading::line::CommandRead;
-use reading::line::parse;
+use run::run::run;
 use scan::classes::classes;
+use scan::part::byte_at;
 use scan::part::part;
-use scanner::token::Token;
+use scanner::token::Lead;
 use scanner::token::TokenKind;
 use scanner::token::covering_token;
-use words::words::Named;
+use scanner::token::lead_of;
+ghost use Rattle.scan.specs.Bytes.{Classes};
+
+// Where the argument at `a` ends: a last 0x0A is no part of it.
+fn argument_stop(s: &[u8], a: usize) -> usize {
+    let n = s.len();
+    if a < n && byte_at(s, n - 1) == 0x0A {
+        return n - 1;
+    }
+    n
+}
 
 // The word.
-fn word_spot(d: CommandDescription) -> Spot {
-    between(d.word, d.end)
+fn word_spot(l: Lead) -> Spot {
+    between(l.range, l.word)
 }
 
 // The argument, without the spaces behind it; for none the word.
-fn argument_spot(s: &[u8], d: CommandDescription) -> Spot {
-    let a = d.argument;
-    let e = d.stop;
+fn argument_spot(s: &[u8], l: Lead) -> Spot {
+    let a = l.argument;
+    let e = argument_stop(s, a);
     if a == e {
-        return word_spot(d);
+        return word_spot(l);
     }
     between(a, trimmed(s, a, e))
 }
 
-// The token that the byte before `e` stands in.
-fn token_before(s: &[u8], e: usize) -> Token {
-    covering_token(s, std::num::wrapping_sub_usize(e, 1))
-}
-
-// What a reading leaves over that fails.
-fn left_spot(s: &[u8]) -> Spot {
-    let t = token_before(s, s.len());
-    between(t.start, t.stop)
-}
-
-// The rest of an argument that is no list; where it is one, it is the range that does not parse, and the place is all of it.
-fn unlisted_spot(s: &[u8], d: CommandDescription) -> Spot {
-    let t = token_before(s, d.stop);
+// What a reading leaves over that fails, or the rest of an argument that is no list; where it is one, it is the range that does not parse,
+// and the place is all of it.
+fn unread_spot(s: &[u8], l: Lead) -> Spot {
+    let e = argument_stop(s, l.argument);
+    let t = covering_token(s, std::num::wrapping_sub_usize(e, 1));
     let kind = t.kind;
     match kind {
+        TokenKind::Left => between(t.start, t.stop),
         TokenKind::Unlisted => between(t.start, t.stop),
-        _ => argument_spot(s, d),
+        _ => argument_spot(s, l),
     }
 }
 
-// The range, which stands right before the word.
-fn range_spot(s: &[u8], d: CommandDescription) -> Spot {
-    let range = d.range;
-    match range {
-        RangeRead::Found(_, _) => {
-            let t = token_before(s, d.word);
-            between(t.start, t.stop)
-        }
-        _ => nowhere(),
+// Whether a text is refused so in its first reading.
+fn is_refused(session: &[u8], s: &[u8], refusal: u64) -> bool {
+    if LINE < s.len() {
+        return false;
     }
-}
-
-// The reading without its range.
-fn unranged(d: CommandDescription) -> CommandDescription {
-    CommandDescription {
-        range: RangeRead::Absent,
-        word: d.word,
-        end: d.end,
-        bang: d.bang,
-        argument: d.argument,
-        stop: d.stop,
-    }
-}
-
-fn is_refused(x: Done, refusal: u64) -> bool {
-    match x {
-        Done::Act(_) => false,
-        Done::Refused(e) => number(e) == refusal,
-    }
-}
-
-// Whether the command refuses its argument so, with no range before its word.
-fn argument_refused(session: &[u8], s: &[u8], d: CommandDescription, refusal: u64) -> bool {
     let table = classes();
-    match find_word(session, part(s, d.word, d.end)) {
-        Named::Command(n) => is_refused(
-            handle(n, s, unranged(d), CommandContext::fresh(), &table),
-            refusal,
-        ),
-        Named::Unknown => false,
-    }
+    let mut store = [0u8; STORE];
+    let reply = run(s, words_of(session), &mut store, &table);
+    reply.readings == 1 && reply.refusal == refusal
 }
 
-// The range or the argument that is one: the argument, if it is refused so without the range too.
-fn ends_spot(session: &[u8], s: &[u8], d: CommandDescription, refusal: u64) -> Spot {
-    if argument_refused(session, s, d, refusal) {
-        return argument_spot(s, d);
+// The range or the argument that is one. Where both are there, it is the argument if it is refused so without the range too.
+fn ends_spot(session: &[u8], s: &[u8], l: Lead, refusal: u64) -> Spot {
+    let a = l.argument;
+    if argument_stop(s, a) == a {
+        return between(l.start, l.range);
     }
-    range_spot(s, d)
-}
-
-// The place in a text whose reading is `d`.
-fn read_spot(session: &[u8], s: &[u8], d: CommandDescription, x: Refusal) -> Spot {
-    match x {
-        Refusal::ParseFailed => unlisted_spot(s, d),
-        Refusal::NumberTooLarge => digits_spot(s),
-        Refusal::InvalidArgument => argument_spot(s, d),
-        Refusal::InvalidRange => ends_spot(session, s, d, number(x)),
-        Refusal::SumTooLarge => ends_spot(session, s, d, number(x)),
-        Refusal::Unimplemented => word_spot(d),
-        _ => nowhere(),
+    if l.start == l.range || is_refused(session, part(s, l.range, s.len()), refusal) {
+        return argument_spot(s, l);
     }
-}
-
-// The place in a text that cannot be read.
-fn unread_spot(s: &[u8], x: Refusal) -> Spot {
-    match x {
-        Refusal::ParseFailed => left_spot(s),
-        Refusal::NumberTooLarge => digits_spot(s),
-        _ => nowhere(),
-    }
+    between(l.start, l.range)
 }
 
 // The place in a text.
-pub fn text_spot(session: &[u8], s: &[u8], x: Refusal) -> Spot {
-    match parse(s) {
-        CommandRead::Command(d) => read_spot(session, s, d, x),
-        _ => unread_spot(s, x),
+pub fn text_spot(session: &[u8], s: &[u8], x: Refusal, classes: &[u8; 256]) -> Spot
+    requires { ⌜ Classes (now classes) ⌝ }
+{
+    let l = lead_of(s, classes);
+    match x {
+        Refusal::ParseFailed => unread_spot(s, l),
+        Refusal::NumberTooLarge => digits_spot(s),
+        Refusal::InvalidArgument => argument_spot(s, l),
+        Refusal::InvalidRange => ends_spot(session, s, l, number(x)),
+        Refusal::SumTooLarge => ends_spot(session, s, l, number(x)),
+        Refusal::Unimplemented => word_spot(l),
+        _ => nowhere(),
     }
 }

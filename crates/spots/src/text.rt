@@ -1,79 +1,53 @@
 // The text that the last reading of a line read: what stands behind the prefixes of the readings before it.
 use super::spot::Spot;
-use super::spot::nowhere_in;
 use super::spot::spot_in;
 use blocks::run::skip_spaces;
-use commands::next::Next;
-use commands::next::by_name;
-use layout::lookup::find_word;
-use limits::refusal::Refusal;
-use reading::line::CommandRead;
-use reading::line::parse;
+use scan::classes::Kind;
 use scan::classes::classes;
 use scan::part::part;
-ghost use mathlib.Core.Path.{_≡_};
+use scan::run::run_end;
+use scanner::token::lead_of;
+ghost use Prim.Native.Nat.{_≤_};
 ghost use lib.ListN.{length};
-ghost use Rattle.layout.specs.Layout.{sessionOf, tableOf};
-ghost use Rattle.commands.specs.Run.{decide as decideOf};
+ghost use Rattle.scan.specs.Bytes.{Classes};
 ghost use Rattle.spots.specs.Spot.{Placed};
 ghost use Rattle.spots.specs.Text.{LastText, UnknownAt};
 
-// Where a text stands in the line, or that there is none.
-pub enum Text {
-    At(usize, usize),
-    Absent,
+// Where a text stands in its line.
+pub struct Text {
+    pub from: usize,
+    pub to: usize,
 }
 
-// What one reading of a text leads to.
-fn next_of(session: &[u8], s: &[u8]) -> Next
-    ensures { λ r. ⌜ r ≡ decideOf (tableOf (sessionOf (now (session .entry)))) (now (s .entry)) ⌝ }
+// The text of the last of so many readings.
+pub fn last_text(line: &[u8], readings: u64, classes: &[u8; 256]) -> Text
+    requires { ⌜ Classes (now classes) ⌝ }
+    ensures order { λ r. ⌜ r .from ≤ r .to ⌝ }
+    ensures inside { λ r. ⌜ r .to ≤ length (now (line .entry)) ⌝ }
+    ensures last { λ r. ⌜ LastText (now (line .entry)) readings (r .from) (r .to) ⌝ }
 {
-    match parse(s) {
-        CommandRead::Command(d) => {
-            let a = d.word;
-            let e = d.end;
-            if a == e {
-                return Next::Empty;
-            }
-            by_name(s, d, find_word(session, part(s, a, e)))
-        }
-        CommandRead::Failed => Next::Refused(Refusal::ParseFailed),
-        CommandRead::TooLarge => Next::Refused(Refusal::NumberTooLarge),
-    }
-}
-
-// The text of a line's last reading, if it has so many.
-pub fn last_text(session: &[u8], line: &[u8], readings: u64) -> Text
-    ensures { λ r. ⌜ LastText (tableOf (sessionOf (now (session .entry)))) (now (line .entry)) readings r ⌝ }
-{
-    if readings == 0 {
-        return Text::Absent;
-    }
-    let table = classes();
-    let mut from = skip_spaces(line, 0, &table);
+    let mut from = skip_spaces(line, 0, classes);
     let mut to = line.len();
     let mut left = readings;
     while 1 < left {
-        let Next::Again(_, a, e) = next_of(session, part(line, from, to)) else {
-            return Text::Absent;
-        };
-        to = from + e;
+        let s = part(line, from, to);
+        let l = lead_of(s, classes);
+        let a = l.argument;
+        to = from + run_end(s, a, classes, Kind::Text);
         from = from + a;
         left -= 1;
     }
-    Text::At(from, to)
+    Text { from: from, to: to }
 }
 
-// The word of a line's last reading, if it is not in the table.
-pub fn unknown_spot(session: &[u8], line: &[u8], readings: u64) -> Spot
+// The word of a line's last reading.
+pub fn unknown_spot(line: &[u8], readings: u64) -> Spot
     ensures placed { λ r. ⌜ Placed (length (now (line .entry))) r ⌝ }
-    ensures word { λ r. ⌜ UnknownAt (tableOf (sessionOf (now (session .entry)))) (now (line .entry)) readings r ⌝ }
+    ensures word { λ r. ⌜ UnknownAt (now (line .entry)) readings r ⌝ }
 {
-    let Text::At(from, to) = last_text(session, line, readings) else {
-        return nowhere_in(line);
-    };
-    let Next::Unknown(a, e) = next_of(session, part(line, from, to)) else {
-        return nowhere_in(line);
-    };
-    spot_in(line, from + a, from + e)
+    let table = classes();
+    let t = last_text(line, readings, &table);
+    let from = t.from;
+    let l = lead_of(part(line, from, t.to), &table);
+    spot_in(line, from + l.range, from + l.word)
 }
