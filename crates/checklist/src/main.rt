@@ -4,6 +4,7 @@
 mod orders_part;
 mod spellings_part;
 
+use calls::fresh;
 use console::argument::argument;
 use console::file::File;
 use console::file::Sum;
@@ -25,11 +26,11 @@ use layout::places::SESSION;
 use orders_part::Ordered;
 use orders_part::put_orders;
 use scan::part::part;
-use session::lent::fresh_in;
 use sheet::sheet::Sheet;
 use sheet::sheet::run;
 use sheet::sheet::start;
 use spellings_part::put_spellings;
+use tally::COUNTS;
 use tally::put_tally;
 use texts::put::put_text;
 
@@ -64,11 +65,18 @@ fn orders(out: &mut [u8], r: Report) -> Ordered {
 }
 
 // The reference sheet's lines.
-fn reference(f: File, path: &[u8], out: &mut [u8], r: Report) -> Sheet {
+fn reference(f: File, path: &[u8], counts: &mut [u64; COUNTS], out: &mut [u8], r: Report) -> Sheet {
     let mut session = [0u8; SESSION];
-    fresh_in(&mut session);
+    fresh(&mut session);
     let at = put_text(out, r.at, b"reference sheet\n");
-    run(f.fd, path, &mut session, out, start(false, up_to(r, at)))
+    run(
+        f.fd,
+        path,
+        &mut session,
+        counts,
+        out,
+        start(false, up_to(r, at)),
+    )
 }
 
 // Whether a sum is that of the reference sheet that this version is for.
@@ -85,10 +93,9 @@ fn is_reference(s: Sum, path: &[u8]) -> bool {
 }
 
 // Sums the reference sheet up, and ends the report.
-fn summed_up(out: &mut [u8], s: Sheet, good: bool) -> u64 {
-    let tally = s.tally;
+fn summed_up(out: &mut [u8], s: Sheet, counts: &[u64; COUNTS], good: bool) -> u64 {
     let report = s.report;
-    let at = put_tally(out, report.at, tally);
+    let at = put_tally(out, report.at, counts);
     if !end_report(out, up_to(report, at)) {
         return FAILED;
     }
@@ -114,10 +121,10 @@ fn first_parts(out: &mut [u8], sum: Sum) -> Ordered {
 }
 
 // A report that is broken off has no number.
-fn ended(out: &mut [u8], path: &[u8], s: Sheet, good: bool) -> u64 {
+fn ended(out: &mut [u8], path: &[u8], s: Sheet, counts: &[u64; COUNTS], good: bool) -> u64 {
     let sum = s.sum;
     if is_reference(sum, path) {
-        return summed_up(out, s, good);
+        return summed_up(out, s, counts, good);
     }
     let report = s.report;
     flush(out, report);
@@ -129,8 +136,9 @@ fn report(f: File, path: &[u8], out: &mut [u8]) -> u64 {
     let sum = f.sum;
     let first = first_parts(out, sum);
     let r = first.report;
-    let s = reference(f, path, out, r);
-    ended(out, path, s, first.good)
+    let mut counts = [0u64; COUNTS];
+    let s = reference(f, path, &mut counts, out, r);
+    ended(out, path, s, &counts, first.good)
 }
 
 // The report, where the sheet is the right one.

@@ -2,8 +2,8 @@
 use console::report::Report;
 use console::report::flush_full;
 use console::report::up_to;
+use replies::put_number;
 use scan::part::part;
-use sheet::report::put_number;
 use spellings::names;
 use spellings::row_at;
 use spellings::spellings;

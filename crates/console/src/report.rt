@@ -6,6 +6,13 @@ use scan::part::part;
 use texts::put::put_decimal;
 use texts::put::put_text;
 
+// How many bytes of a long report gather before they are written out: many, since the table that sums them is made anew each time.
+pub const REPORT: usize = 262144;
+
+// How many bytes a line of a sheet may take: at most two for each byte of its record, six for each byte in its words, as many where it is
+// refused and shown, as many for the mark under it, and some numbers.
+const TOLD: usize = 24576;
+
 // How far a report is: whose it is, where it ends in the buffer, the sum of what was written out before it, and whether all of that could be
 // written. One that is not `shown` is dropped instead.
 pub struct Report {
@@ -62,10 +69,9 @@ pub fn flush(out: &[u8], r: Report) -> Report {
     s
 }
 
-// Writes the report out where little room is left. A line of a sheet adds at most two bytes for each of its record, six for each byte in
-// its words, as many where it is refused and shown, as many for the mark under it, and some numbers.
+// Writes the report out where less room is left than a line of a sheet may take.
 pub fn flush_full(out: &[u8], r: Report) -> Report {
-    if r.at < 40960 {
+    if r.at < out.len() && TOLD < out.len() - r.at {
         return r;
     }
     flush(out, r)

@@ -1,5 +1,7 @@
 // Runs one line on a fresh session: its argument, or all of standard input. Prints refusal, readings and, in hex, what was written; a
 // refusal is told in words on standard error too, with the line and a mark under the place that it is about.
+use calls::fresh;
+use calls::run_line;
 use console::argument::argument;
 use console::program::Program;
 use console::program::put_program;
@@ -15,12 +17,10 @@ use libc::STDOUT_FILENO;
 use limits::LINE;
 use limits::STORE;
 use reasons::put_refused;
+use replies::put_refused_text;
+use replies::put_reply;
 use run::reply::LineReply;
 use scan::part::part;
-use session::lent::fresh_in;
-use session::lent::line_in;
-use sheet::report::put_refused_text;
-use sheet::report::put_reply;
 use texts::put::put_byte;
 use texts::put::put_text;
 
@@ -104,7 +104,7 @@ fn print_reply(r: LineReply, written: &[u8]) -> bool {
 
 fn verdict_of(session: &mut [u8], line: &[u8]) -> u64 {
     let mut store = [0u8; STORE + 1];
-    let reply = line_in(session, line, &mut store);
+    let reply = run_line(session, line, &mut store);
     let written = part(&store, 0, reply.count as usize);
     if !print_reply(reply, written) {
         return FAILED;
@@ -120,7 +120,7 @@ fn verdict_of(session: &mut [u8], line: &[u8]) -> u64 {
 fn main() {
     let mut line = [0u8; LINE + 1];
     let mut session = [0u8; SESSION];
-    fresh_in(&mut session);
+    fresh(&mut session);
     let taken = line_of(&mut line);
     if !taken.good {
         hand_over(FAILED);

@@ -2,6 +2,7 @@
 // each bad alias, a line for each line of the sheet, a line that sums up, and the number of the report.
 // Arguments: the sheet's path and its name, those of the alias file, empty if there is none, and whether the program may have been called
 // as it was before, with the alias file as its argument. Standard input has the empty name.
+use calls::fresh;
 use console::argument::argument;
 use console::file::File;
 use console::file::Sum;
@@ -14,6 +15,7 @@ use console::file::rewound;
 use console::file::say_of;
 use console::program::Program;
 use console::program::put_maker;
+use console::report::REPORT;
 use console::report::Report;
 use console::report::end_report;
 use console::report::flush;
@@ -26,22 +28,24 @@ use console::told::hand_over;
 use console::told::say;
 use layout::places::SESSION;
 use scan::part::part;
-use session::lent::fresh_in;
 use sheet::sheet::Sheet;
 use sheet::sheet::run;
 use sheet::sheet::start;
+use tally::ACTIONS;
+use tally::COUNTS;
 use tally::put_tally;
+use tally::refused;
 use texts::put::put_text;
 
 // Whether a file is one of aliases: it has one, and no line that is anything else.
 fn is_alias_file(f: File, name: &[u8], out: &mut [u8]) -> bool {
     let mut session = [0u8; SESSION];
-    fresh_in(&mut session);
+    fresh(&mut session);
     let r = fresh_report(Program::Exsheet, false);
-    let done = run(f.fd, name, &mut session, out, start(true, r));
+    let mut counts = [0u64; COUNTS];
+    let done = run(f.fd, name, &mut session, &mut counts, out, start(true, r));
     let sum = done.sum;
-    let tally = done.tally;
-    sum.good && (tally.actions > 0 || tally.refused > 0)
+    sum.good && (counts[ACTIONS] > 0 || refused(&counts) > 0)
 }
 
 // The sheet at its start again, unless it is a file of aliases that was given as it was before.
@@ -79,12 +83,13 @@ fn alias_file(path: &[u8], name: &[u8]) -> File {
     open_file(Program::Exsheet, path, name)
 }
 
-// Adds the aliases, if a file of them is named.
+// Adds the aliases, if a file of them is named, and counts them.
 fn add_aliases(
     f: File,
     path: &[u8],
     name: &[u8],
     session: &mut [u8],
+    counts: &mut [u64; COUNTS],
     out: &mut [u8],
     r: Report,
 ) -> Sheet {
@@ -92,7 +97,7 @@ fn add_aliases(
     if path.len() == 0 {
         return s;
     }
-    run(f.fd, name, session, out, s)
+    run(f.fd, name, session, counts, out, s)
 }
 
 // Whether a file was read to its end, and was the same both times.
@@ -117,16 +122,14 @@ fn say_returns(s: Sheet, name: &[u8]) {
     }
 }
 
-// Sums the sheet up, and ends the report.
-fn summed_up(out: &mut [u8], aliases: Sheet, lines: Sheet) -> u64 {
-    let added = aliases.tally;
-    let tally = lines.tally;
+// Sums the sheet up, and ends the report. So many aliases were refused.
+fn summed_up(out: &mut [u8], bad: u64, lines: Sheet, counts: &[u64; COUNTS]) -> u64 {
     let report = lines.report;
-    let at = put_tally(out, report.at, tally);
+    let at = put_tally(out, report.at, counts);
     if !end_report(out, up_to(report, at)) {
         return FAILED;
     }
-    if added.refused > 0 || tally.refused > 0 {
+    if bad > 0 || refused(counts) > 0 {
         return REFUSED;
     }
     DONE
@@ -140,12 +143,20 @@ fn broken_off(out: &[u8], s: Sheet) -> u64 {
 }
 
 // The sheet's lines.
-fn run_lines(g: File, name: &[u8], session: &mut [u8], out: &mut [u8], aliases: Sheet) -> u64 {
+fn run_lines(
+    g: File,
+    name: &[u8],
+    session: &mut [u8],
+    out: &mut [u8],
+    aliases: Sheet,
+    bad: u64,
+) -> u64 {
     let r = aliases.report;
-    let lines = run(g.fd, name, session, out, start(false, r));
+    let mut counts = [0u64; COUNTS];
+    let lines = run(g.fd, name, session, &mut counts, out, start(false, r));
     if is_whole(lines, g, name) {
         say_returns(lines, name);
-        return summed_up(out, aliases, lines);
+        return summed_up(out, bad, lines, &counts);
     }
     broken_off(out, lines)
 }
@@ -157,10 +168,11 @@ fn behind_aliases(
     session: &mut [u8],
     out: &mut [u8],
     aliases: Sheet,
+    bad: u64,
     whole: bool,
 ) -> u64 {
     if whole {
-        return run_lines(g, name, session, out, aliases);
+        return run_lines(g, name, session, out, aliases, bad);
     }
     broken_off(out, aliases)
 }
@@ -178,10 +190,11 @@ fn report(f: File, aliases: &[u8], called: &[u8], g: File, name: &[u8], out: &mu
     let sum = g.sum;
     let r = head(out, name, sum, aliases, called, f);
     let mut session = [0u8; SESSION];
-    fresh_in(&mut session);
-    let added = add_aliases(f, aliases, called, &mut session, out, r);
+    fresh(&mut session);
+    let mut counts = [0u64; COUNTS];
+    let added = add_aliases(f, aliases, called, &mut session, &mut counts, out, r);
     let whole = is_whole(added, f, called);
-    behind_aliases(g, name, &mut session, out, added, whole)
+    behind_aliases(g, name, &mut session, out, added, refused(&counts), whole)
 }
 
 // Both files, each with its path and name.
@@ -193,7 +206,7 @@ fn with_files(path: &[u8], name: &[u8], aliases: &[u8], called: &[u8]) -> u64 {
     if !first.good || !second.good {
         return FAILED;
     }
-    let mut out = io::large_buffer();
+    let mut out = [0u8; REPORT];
     let again = not_as_before(g, name, &mut out);
     if !again.good {
         return FAILED;

@@ -3,14 +3,14 @@ use super::compose::last_ones;
 use super::compose::put_composed;
 use super::order::order_of;
 use super::prefixes::Prefixes;
+use calls::fresh;
+use calls::run_line;
 use layout::places::SESSION;
 use limits::STORE;
+use replies::put_number;
+use replies::put_reply;
 use run::reply::LineReply;
 use scan::part::part;
-use session::lent::fresh_in;
-use session::lent::line_in;
-use sheet::report::put_number;
-use sheet::report::put_reply;
 use texts::put::put_byte;
 use texts::put::put_quoted;
 use texts::put::put_text;
@@ -25,8 +25,8 @@ pub struct Told {
 // Runs a line on a fresh session.
 fn answer(line: &[u8], store: &mut [u8]) -> LineReply {
     let mut session = [0u8; SESSION];
-    fresh_in(&mut session);
-    line_in(&mut session, line, store)
+    fresh(&mut session);
+    run_line(&mut session, line, store)
 }
 
 // Whether a line says what another did: the same refusal, and the same record or word.

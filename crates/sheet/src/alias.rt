@@ -1,6 +1,6 @@
 // One line of an alias file: a word and a command, by its number or by one of its spellings, with spaces about them.
 use blocks::run::skip_spaces;
-use blocks::test::not_space;
+use calls::add_alias;
 use limits::LINE;
 use limits::MOST;
 use limits::refusal::Refusal;
@@ -9,7 +9,7 @@ use scan::classes::classes;
 use scan::decimal::Decimal;
 use scan::decimal::digits;
 use scan::part::part;
-use session::lent::alias_in;
+use spots::bytes::field_end;
 use utf8::utf8::is_utf8;
 use words::words::Named;
 use words::words::lookup;
@@ -31,18 +31,6 @@ fn plain(refusal: u64, kind: u8) -> Added {
     }
 }
 
-// Where the bytes that are no spaces end.
-fn field_end(s: &[u8], at: usize) -> usize {
-    let mut i = at;
-    while i < s.len() {
-        if !not_space(s[i]) {
-            return i;
-        }
-        i += 1;
-    }
-    i
-}
-
 // The command that a text names: digits are its number, and anything else is one of its spellings. A number that is too large for 64
 // bits is above the last command's like others.
 fn command_of(s: &[u8]) -> Named {
@@ -61,7 +49,7 @@ fn command_of(s: &[u8]) -> Named {
 // The line's word and command, as they stand.
 fn add(session: &mut [u8], line: &[u8], w: usize, e: usize, c: usize, f: usize) -> Added {
     match command_of(part(line, c, f)) {
-        Named::Command(n) => plain(alias_in(session, part(line, w, e), n), 1),
+        Named::Command(n) => plain(add_alias(session, part(line, w, e), n), 1),
         Named::Unknown => Added {
             refusal: number(Refusal::UnknownWord),
             kind: 0,

@@ -2,8 +2,7 @@
 // last line may go without.
 use super::alias::Added;
 use super::alias::alias_line;
-use super::report::put_alias_told;
-use super::report::put_line_told;
+use calls::run_line;
 use console::file::Sum;
 use console::file::ended;
 use console::file::no_sum;
@@ -14,29 +13,29 @@ use console::report::flush_full;
 use console::report::up_to;
 use limits::LINE;
 use limits::STORE;
+use replies::put_alias_told;
+use replies::put_line_told;
 use run::reply::LineReply;
 use scan::classes::Kind;
 use scan::classes::classes;
 use scan::part::byte_at;
 use scan::part::part;
 use scan::run::run_end;
-use session::lent::line_in;
-use tally::Tally;
-use tally::none;
+use tally::COUNTS;
 use tally::tallied;
 use texts::put::put_text;
 ghost use Prim.Native.Nat.{_≤_};
 ghost use lib.ListN.{length};
+ghost use Rattle.scan.specs.Bytes.{Classes};
 
 // How far a sheet is: whether its lines are aliases, how many lines were told, whether one of them ends in a carriage return, how many bytes
-// of the next one are held, what was read, what the lines came to, and the report.
+// of the next one are held, what was read, and the report.
 pub struct Sheet {
     pub aliases: bool,
     pub number: u64,
     pub returns: bool,
     pub held: usize,
     pub sum: Sum,
-    pub tally: Tally,
     pub report: Report,
 }
 
@@ -48,7 +47,6 @@ pub fn start(aliases: bool, r: Report) -> Sheet {
         returns: false,
         held: 0,
         sum: no_sum(),
-        tally: none(),
         report: r,
     }
 }
@@ -62,41 +60,28 @@ fn stopped(s: Sheet, good: bool) -> Sheet {
 }
 
 // Where the line ends that starts at `at`: at the first 0x0A, or at the end of the bytes.
-fn line_end(s: &[u8], at: usize) -> usize
+fn line_end(s: &[u8], at: usize, classes: &[u8; 256]) -> usize
     requires { ⌜ at ≤ length (now s) ⌝ }
+    requires { ⌜ Classes (now classes) ⌝ }
     ensures from { λ r. ⌜ at ≤ r ⌝ }
     ensures within { λ r. ⌜ r ≤ length (now (s .entry)) ⌝ }
 {
-    let table = classes();
-    run_end(s, at, &table, Kind::Text)
+    run_end(s, at, classes, Kind::Text)
 }
 
 fn next(n: u64) -> u64 {
     std::num::wrapping_add_u64(n, 1)
 }
 
-// One line more is told: what it came to, and where the report then ends.
-fn with_line(
-    s: Sheet,
-    out: &[u8],
-    number: u64,
-    at: usize,
-    returned: bool,
-    reply: LineReply,
-    written: &[u8],
-) -> Sheet {
-    let sum = s.sum;
-    let tally = s.tally;
+// One line more is told, and the report then ends at `at`.
+fn with_line(s: Sheet, out: &[u8], number: u64, at: usize, returned: bool) -> Sheet {
     let report = s.report;
-    Sheet {
-        aliases: s.aliases,
-        number: number,
-        returns: s.returns || returned,
-        held: 0,
-        sum: sum,
-        tally: tallied(tally, reply, written),
-        report: flush_full(out, up_to(report, at)),
-    }
+    let mut t = s;
+    t.number = number;
+    t.returns = returned;
+    t.held = 0;
+    t.report = flush_full(out, up_to(report, at));
+    t
 }
 
 // A file whose report is not shown is only looked at: it is read no further where a line is no word with a command.
@@ -109,7 +94,13 @@ fn looked_at(s: Sheet, added: Added) -> Sheet {
 }
 
 // A line of an alias file is told, if it was refused.
-fn with_alias(line: &[u8], out: &mut [u8], s: Sheet, added: Added) -> Sheet {
+fn with_alias(
+    line: &[u8],
+    counts: &mut [u64; COUNTS],
+    out: &mut [u8],
+    s: Sheet,
+    added: Added,
+) -> Sheet {
     let number = next(s.number);
     let refusal = added.refusal;
     let report = s.report;
@@ -121,38 +112,61 @@ fn with_alias(line: &[u8], out: &mut [u8], s: Sheet, added: Added) -> Sheet {
         count: 0,
     };
     let kind = [added.kind];
-    let t = with_line(s, out, number, at, false, reply, &kind);
+    tallied(counts, reply, &kind);
+    let t = with_line(s, out, number, at, s.returns);
     looked_at(t, added)
 }
 
 // Adds the alias of a line.
-fn alias_told(session: &mut [u8], line: &[u8], out: &mut [u8], s: Sheet) -> Sheet {
+fn alias_told(
+    session: &mut [u8],
+    line: &[u8],
+    counts: &mut [u64; COUNTS],
+    out: &mut [u8],
+    s: Sheet,
+) -> Sheet {
     let added = alias_line(session, line);
-    with_alias(line, out, s, added)
+    with_alias(line, counts, out, s, added)
 }
 
-// Whether a line ends in a carriage return, as lines of other systems' files do.
-fn ends_in_return(line: &[u8]) -> bool {
-    byte_at(line, std::num::wrapping_sub_usize(line.len(), 1)) == 0x0D
+// Whether a line ends in a carriage return, as lines of other systems' files do, or one before it did.
+fn returns(before: bool, line: &[u8]) -> bool {
+    before || byte_at(line, std::num::wrapping_sub_usize(line.len(), 1)) == 0x0D
 }
 
-// Runs a line and tells what it came to; a refused one is shown. The store is long enough for any line that is not too long.
-fn line_told(session: &mut [u8], line: &[u8], out: &mut [u8], s: Sheet) -> Sheet {
-    let number = next(s.number);
-    let mut store = [0u8; STORE + 1];
-    let reply = line_in(session, line, &mut store);
-    let written = part(&store, 0, reply.count as usize);
-    let report = s.report;
-    let at = put_line_told(out, report.at, number, reply, written, session, line);
-    with_line(s, out, number, at, ends_in_return(line), reply, written)
+// Runs a line, counts it, and tells from `at` on what it came to; a refused one is shown.
+fn line_told(
+    session: &mut [u8],
+    line: &[u8],
+    store: &mut [u8],
+    counts: &mut [u64; COUNTS],
+    out: &mut [u8],
+    number: u64,
+    at: usize,
+) -> usize {
+    let reply = run_line(session, line, store);
+    let written = part(store, 0, reply.count as usize);
+    tallied(counts, reply, written);
+    put_line_told(out, at, number, reply, written, session, line)
 }
 
-// A line.
-fn told(session: &mut [u8], line: &[u8], out: &mut [u8], s: Sheet) -> Sheet {
+// The line that is held.
+fn held_told(
+    session: &mut [u8],
+    line: &[u8],
+    store: &mut [u8],
+    counts: &mut [u64; COUNTS],
+    out: &mut [u8],
+    s: Sheet,
+) -> Sheet {
+    let text = part(line, 0, s.held);
     if s.aliases {
-        return alias_told(session, line, out, s);
+        return alias_told(session, text, counts, out, s);
     }
-    line_told(session, line, out, s)
+    let number = next(s.number);
+    let report = s.report;
+    let at = line_told(session, text, store, counts, out, number, report.at);
+    with_line(s, out, number, at, returns(s.returns, text))
 }
 
 // With so many bytes held.
@@ -162,43 +176,69 @@ fn holding(s: Sheet, held: usize) -> Sheet {
     t
 }
 
-// Bytes of a line, and whether it ends there. Where none are held and it does, it is told as it lies; else they are held behind those that
-// are. A line that is too long keeps as many as show it.
+// Bytes of a line, and whether it ends there: they are held behind those that are. A line that is too long keeps as many as show it.
 fn taken(
     session: &mut [u8],
     line: &mut [u8],
+    store: &mut [u8],
+    counts: &mut [u64; COUNTS],
     out: &mut [u8],
     s: Sheet,
     text: &[u8],
     ends: bool,
 ) -> Sheet {
-    if ends && s.held == 0 {
-        return told(session, text, out, s);
-    }
     let held = put_text(line, s.held, text);
+    let t = holding(s, held);
     if ends {
-        return told(session, part(line, 0, held), out, s);
+        return held_told(session, line, store, counts, out, t);
     }
-    holding(s, held)
+    t
 }
 
-// Goes through bytes that were read.
-fn through(session: &mut [u8], line: &mut [u8], out: &mut [u8], s: Sheet, bytes: &[u8]) -> Sheet {
+// Goes through bytes that were read. A line of a sheet that stands whole in them is run where it lies, and the sheet goes on in place; the
+// bytes of others are held.
+fn through(
+    session: &mut [u8],
+    line: &mut [u8],
+    store: &mut [u8],
+    counts: &mut [u64; COUNTS],
+    out: &mut [u8],
+    s: Sheet,
+    bytes: &[u8],
+) -> Sheet {
+    let table = classes();
     let mut t = s;
     let mut i: usize = 0;
     while i < bytes.len() {
         let from = i;
-        let e = line_end(bytes, from);
+        let e = line_end(bytes, from, &table);
+        let text = part(bytes, from, e);
         i = e + 1;
-        t = taken(session, line, out, t, part(bytes, from, e), e < bytes.len());
+        if e < bytes.len() && t.held == 0 && !t.aliases {
+            let number = next(t.number);
+            let report = t.report;
+            let at = line_told(session, text, store, counts, out, number, report.at);
+            t.number = number;
+            t.returns = returns(t.returns, text);
+            t.report = flush_full(out, up_to(report, at));
+            continue;
+        }
+        t = taken(session, line, store, counts, out, t, text, e < bytes.len());
     }
     t
 }
 
 // Nothing is left to read; a last line may be held.
-fn last(session: &mut [u8], line: &[u8], out: &mut [u8], s: Sheet) -> Sheet {
+fn last(
+    session: &mut [u8],
+    line: &[u8],
+    store: &mut [u8],
+    counts: &mut [u64; COUNTS],
+    out: &mut [u8],
+    s: Sheet,
+) -> Sheet {
     if s.held > 0 {
-        let t = told(session, part(line, 0, s.held), out, s);
+        let t = held_told(session, line, store, counts, out, s);
         return stopped(t, true);
     }
     stopped(s, true)
@@ -217,6 +257,8 @@ fn while_written(s: Sheet) -> Sheet {
 fn with_bytes(
     session: &mut [u8],
     line: &mut [u8],
+    store: &mut [u8],
+    counts: &mut [u64; COUNTS],
     out: &mut [u8],
     s: Sheet,
     bytes: &[u8],
@@ -224,7 +266,7 @@ fn with_bytes(
     let sum = s.sum;
     let mut t = s;
     t.sum = summed(sum, bytes);
-    let u = through(session, line, out, t, bytes);
+    let u = through(session, line, store, counts, out, t, bytes);
     while_written(u)
 }
 
@@ -234,6 +276,8 @@ fn turn(
     name: &[u8],
     session: &mut [u8],
     line: &mut [u8],
+    store: &mut [u8],
+    counts: &mut [u64; COUNTS],
     out: &mut [u8],
     s: Sheet,
 ) -> Sheet {
@@ -247,18 +291,27 @@ fn turn(
     }
     let n = io::count(got, &bytes);
     if n == 0 {
-        return last(session, line, out, s);
+        return last(session, line, store, counts, out, s);
     }
-    with_bytes(session, line, out, s, part(&bytes, 0, n))
+    with_bytes(session, line, store, counts, out, s, part(&bytes, 0, n))
 }
 
-// Runs a whole sheet, whose name is for messages. A proved loop has to end, so it counts its turns down from a number that no run uses up.
-pub fn run(fd: i32, name: &[u8], session: &mut [u8], out: &mut [u8], s: Sheet) -> Sheet {
+// Runs a whole sheet, whose name is for messages, and counts its lines. The store is long enough for any line that is not too long. A proved
+// loop has to end, so it counts its turns down from a number that no run uses up.
+pub fn run(
+    fd: i32,
+    name: &[u8],
+    session: &mut [u8],
+    counts: &mut [u64; COUNTS],
+    out: &mut [u8],
+    s: Sheet,
+) -> Sheet {
     let mut line = [0u8; LINE + 1];
+    let mut store = [0u8; STORE + 1];
     let mut turns = u64::MAX;
     let mut t = s;
     while turns > 0 && t.sum.more {
-        t = turn(fd, name, session, &mut line, out, t);
+        t = turn(fd, name, session, &mut line, &mut store, counts, out, t);
         turns -= 1;
     }
     t

@@ -1,49 +1,51 @@
--- The tally of a sheet: how many lines there were, and what they came to. Counts are modulo 2^64.
+-- The tally of a sheet: for each outcome of a line, how many lines came to it. First stand the refusals, in the order of their numbers, then
+-- numbers that no refusal has, lines with an action, and lines that give nothing. Counts are modulo 2^64.
 -- Assumes nothing.
 use mathlib.Core.Bool.{cond}
 use mathlib.Core.List.{List}
-use Prim.Native.Nat.{ℕ, _+_, _%_, _^_}
+use Prim.Native.Nat.{ℕ, zero, suc, _+_, _%_, _^_}
 use lib.Dec.{eqb}
-use lib.ListN.{length, getD, set, replicate}
+use lib.ListN.{length, getD, set}
 use Rattle.limits.specs.Refusals.{refusals, refusalOf, placeOf}
 use Rattle.limits.specs.declared.refusal.Numbered.{Numbered}
 use Rattle.scan.specs.Scan.{byteAt}
 use Rattle.run.specs.declared.reply.LineReply.{LineReply}
-use Rattle.tally.specs.declared.Tally.{Tally}
 
--- no line yet
-unfoldable pub noLines : Tally
-noLines = record { lines = 0; actions = 0; nothing = 0; refused = 0; by = replicate (length refusals + 1) 0 }
+-- where lines are counted that are refused by a number that no refusal has, those with an action, and those that give nothing
+abbrev pub others : ℕ
+others = length refusals
 
--- one more of what is counted
-unfoldable pub oneMore : ℕ → ℕ
-oneMore n = (n + 1) % 2 ^ 64
+abbrev pub actions : ℕ
+actions = length refusals + 1
 
--- a line that is accepted: the kind of its record is 0 for nothing
-unfoldable pub withAccepted : Tally → ℕ → Tally
-withAccepted t kind =
-    cond
-    (eqb kind 0)
-    (record { lines = oneMore (t .lines); actions = t .actions; nothing = oneMore (t .nothing); refused = t .refused; by = t .by })
-    (record { lines = oneMore (t .lines); actions = oneMore (t .actions); nothing = t .nothing; refused = t .refused; by = t .by })
+abbrev pub nothing : ℕ
+nothing = length refusals + 2
 
--- where lines refused by a number are counted: each refusal has its count, and the last one is for numbers that no refusal has
+-- how many counts there are
+abbrev pub counts : ℕ
+counts = length refusals + 3
+
+unfoldable pub addedTo : ℕ → ℕ → ℕ
+addedTo n m = (n + m) % 2 ^ 64
+
+-- where lines refused by a number are counted
 abbrev entryBy : Numbered → ℕ
 entryBy (Numbered.Refused x) = placeOf x
-entryBy Numbered.Accepted = length refusals
-entryBy Numbered.Unused = length refusals
+entryBy Numbered.Accepted = others
+entryBy Numbered.Unused = others
 
 unfoldable pub entryOf : ℕ → ℕ
 entryOf n = entryBy (refusalOf n)
 
-unfoldable pub byNumber : List ℕ → ℕ → List ℕ
-byNumber by n = set by (entryOf n) (oneMore (getD by (entryOf n) 0))
+-- where a line is counted, by what it answers and what it writes: the kind of an accepted line's record is 0 for nothing
+unfoldable pub outcomeOf : LineReply → List ℕ → ℕ
+outcomeOf r written = cond (eqb (r .refusal) 0) (cond (eqb (byteAt written 0) 0) nothing actions) (entryOf (r .refusal))
 
--- a line that is refused
-unfoldable pub withRefused : Tally → ℕ → Tally
-withRefused t n =
-    record { lines = oneMore (t .lines); actions = t .actions; nothing = t .nothing; refused = oneMore (t .refused); by = byNumber (t .by) n }
+-- one line more
+unfoldable pub withLine : List ℕ → LineReply → List ℕ → List ℕ
+withLine t r written = set t (outcomeOf r written) (addedTo (getD t (outcomeOf r written) 0) 1)
 
--- a line, by what it answers and what it writes
-unfoldable pub withLine : Tally → LineReply → List ℕ → Tally
-withLine t r written = cond (eqb (r .refusal) 0) (withAccepted t (byteAt written 0)) (withRefused t (r .refusal))
+-- the sum of the first n counts
+unfoldable pub sumUpTo : List ℕ → ℕ → ℕ
+sumUpTo t zero = 0
+sumUpTo t (suc n) = addedTo (sumUpTo t n) (getD t n 0)

@@ -1,4 +1,4 @@
-// How many lines there were, and what they came to.
+// How many lines there were, and what they came to: a count for each outcome of a line, lent and added to.
 use limits::refusal::LAST_REFUSAL;
 use limits::refusal::Numbered;
 use limits::refusal::REFUSALS;
@@ -14,60 +14,25 @@ ghost use Prim.Native.Nat.{_+_, _<_};
 ghost use lib.ListN.{length};
 ghost use Rattle.limits.specs.Refusals.{refusals};
 ghost use Rattle.texts.specs.Behind.{Behind};
-ghost use Rattle.tally.specs.Tally.{noLines, oneMore, entryOf, withAccepted, withLine, withRefused};
+ghost use Rattle.tally.specs.Tally.{counts, addedTo, entryOf, outcomeOf, withLine, sumUpTo};
 
-// How many counts of refused lines there are.
-pub const COUNTS: usize = REFUSALS + 1;
+// How many counts there are: one for each refusal, in the order of their numbers, one for numbers that no refusal has, one for lines with an
+// action, and one for lines that give nothing.
+pub const COUNTS: usize = REFUSALS + 3;
 
-// Lines, those with an action, those that give nothing, those refused, and of these how many by each refusal, in the order of their
-// numbers; the last count is for numbers that no refusal has.
-pub struct Tally {
-    pub lines: u64,
-    pub actions: u64,
-    pub nothing: u64,
-    pub refused: u64,
-    pub by: [u64; COUNTS],
-}
+// Where lines are counted that are refused by a number that no refusal has.
+const OTHERS: usize = REFUSALS;
 
-pub fn none() -> Tally
-    ensures { λ r. ⌜ r ≡ noLines ⌝ }
+// Where lines with an action are counted.
+pub const ACTIONS: usize = REFUSALS + 1;
+
+// Where lines that give nothing are counted.
+const NOTHING: usize = REFUSALS + 2;
+
+fn added(n: u64, m: u64) -> u64
+    ensures { λ r. ⌜ r ≡ addedTo n m ⌝ }
 {
-    Tally {
-        lines: 0,
-        actions: 0,
-        nothing: 0,
-        refused: 0,
-        by: [0; COUNTS],
-    }
-}
-
-fn one_more(n: u64) -> u64
-    ensures { λ r. ⌜ r ≡ oneMore n ⌝ }
-{
-    std::num::wrapping_add_u64(n, 1)
-}
-
-// A line that is accepted: the kind of its record is 0 for nothing.
-fn accepted(t: Tally, kind: u8) -> Tally
-    ensures { λ r. ⌜ r ≡ withAccepted t kind ⌝ }
-{
-    let by = t.by;
-    if kind == 0 {
-        return Tally {
-            lines: one_more(t.lines),
-            actions: t.actions,
-            nothing: one_more(t.nothing),
-            refused: t.refused,
-            by: by,
-        };
-    }
-    Tally {
-        lines: one_more(t.lines),
-        actions: one_more(t.actions),
-        nothing: t.nothing,
-        refused: t.refused,
-        by: by,
-    }
+    std::num::wrapping_add_u64(n, m)
 }
 
 // Where lines refused by a number are counted.
@@ -77,34 +42,44 @@ fn entry(n: u64) -> usize
 {
     match refusal_of(n) {
         Numbered::Refused(x) => place(x),
-        Numbered::Accepted => REFUSALS,
-        Numbered::Unused => REFUSALS,
+        Numbered::Accepted => OTHERS,
+        Numbered::Unused => OTHERS,
     }
 }
 
-fn refused(t: Tally, refusal: u64) -> Tally
-    ensures { λ r. ⌜ r ≡ withRefused t refusal ⌝ }
+// Where a line is counted: the kind of an accepted line's record is 0 for nothing.
+fn outcome(r: LineReply, written: &[u8]) -> usize
+    ensures value { λ i. ⌜ i ≡ outcomeOf r (now (written .entry)) ⌝ }
+    ensures bound { λ i. ⌜ i < counts ⌝ }
 {
-    let mut by = t.by;
-    let i = entry(refusal);
-    by[i] = one_more(by[i]);
-    Tally {
-        lines: one_more(t.lines),
-        actions: t.actions,
-        nothing: t.nothing,
-        refused: one_more(t.refused),
-        by: by,
+    if r.refusal > 0 {
+        return entry(r.refusal);
     }
+    if byte_at(written, 0) == 0 {
+        return NOTHING;
+    }
+    ACTIONS
 }
 
 // One line more.
-pub fn tallied(t: Tally, r: LineReply, written: &[u8]) -> Tally
-    ensures { λ s. ⌜ s ≡ withLine t r (now (written .entry)) ⌝ }
+pub fn tallied(t: &mut [u64; COUNTS], r: LineReply, written: &[u8])
+    ensures { λ _. ⌜ now (t .exit) ≡ withLine (now (t .entry)) r (now (written .entry)) ⌝ }
 {
-    if r.refusal == 0 {
-        return accepted(t, byte_at(written, 0));
+    let i = outcome(r, written);
+    t[i] = added(t[i], 1);
+}
+
+// How many lines were refused.
+pub fn refused(t: &[u64; COUNTS]) -> u64
+    ensures { λ r. ⌜ r ≡ sumUpTo (now (t .entry)) (length refusals + 1) ⌝ }
+{
+    let mut n: u64 = 0;
+    let mut i: usize = 0;
+    while i <= OTHERS {
+        n = added(n, t[i]);
+        i += 1;
     }
-    refused(t, r.refusal)
+    n
 }
 
 // A count and what is counted.
@@ -138,11 +113,11 @@ fn put_by(out: &mut [u8], at: usize, n: u64, count: u64) -> usize
 }
 
 // The same for a number that a refusal may have.
-fn put_by_number(out: &mut [u8], at: usize, n: u64, by: &[u64; COUNTS]) -> usize
+fn put_by_number(out: &mut [u8], at: usize, n: u64, t: &[u64; COUNTS]) -> usize
     ensures { λ r. ⌜ Behind (now (out .entry)) (now (out .exit)) at r ⌝ }
 {
     match refusal_of(n) {
-        Numbered::Refused(x) => put_by(out, at, n, by[place(x)]),
+        Numbered::Refused(x) => put_by(out, at, n, t[place(x)]),
         Numbered::Accepted => at,
         Numbered::Unused => at,
     }
@@ -160,40 +135,35 @@ fn put_others(out: &mut [u8], at: usize, count: u64) -> usize
 }
 
 // The refused lines by number.
-fn put_all_by(out: &mut [u8], at: usize, by: &[u64; COUNTS]) -> usize
+fn put_all_by(out: &mut [u8], at: usize, t: &[u64; COUNTS]) -> usize
     ensures { λ r. ⌜ Behind (now (out .entry)) (now (out .exit)) at r ⌝ }
 {
     let mut to = at;
     let mut n: u64 = 0;
     while n <= LAST_REFUSAL {
-        to = put_by_number(out, to, n, by);
+        to = put_by_number(out, to, n, t);
         n += 1;
     }
-    put_others(out, to, by[REFUSALS])
+    put_others(out, to, t[OTHERS])
 }
 
 // Lines, actions and those that give nothing.
-fn put_lines(out: &mut [u8], at: usize, t: Tally) -> usize
+fn put_lines(out: &mut [u8], at: usize, actions: u64, nothing: u64, refused: u64) -> usize
     ensures { λ r. ⌜ Behind (now (out .entry)) (now (out .exit)) at r ⌝ }
 {
-    let i = put_counted(out, at, t.lines, b" line: ", b" lines: ");
-    let j = put_counted(out, i, t.actions, b" action, ", b" actions, ");
-    put_count(out, j, t.nothing, b" nothing, ")
+    let lines = added(added(actions, nothing), refused);
+    let i = put_counted(out, at, lines, b" line: ", b" lines: ");
+    let j = put_counted(out, i, actions, b" action, ", b" actions, ");
+    put_count(out, j, nothing, b" nothing, ")
 }
 
 // The line that sums up.
-pub fn put_tally(out: &mut [u8], at: usize, t: Tally) -> usize
+pub fn put_tally(out: &mut [u8], at: usize, t: &[u64; COUNTS]) -> usize
     ensures { λ r. ⌜ Behind (now (out .entry)) (now (out .exit)) at r ⌝ }
 {
-    let by = t.by;
-    let i = put_lines(out, at, t);
-    let j = put_count(out, i, t.refused, b" refused");
-    put_end(out, j, &by)
-}
-
-fn put_end(out: &mut [u8], at: usize, by: &[u64; COUNTS]) -> usize
-    ensures { λ r. ⌜ Behind (now (out .entry)) (now (out .exit)) at r ⌝ }
-{
-    let i = put_all_by(out, at, by);
-    put_byte(out, i, 0x0A)
+    let bad = refused(t);
+    let i = put_lines(out, at, t[ACTIONS], t[NOTHING], bad);
+    let j = put_count(out, i, bad, b" refused");
+    let k = put_all_by(out, j, t);
+    put_byte(out, k, 0x0A)
 }

@@ -9,10 +9,10 @@ use Rattle.tally.proofs.put_all_by.Statement.{statement}
 use Rattle.tally.proofs.put_all_by.Tie as tie
 
 abbrev Inv-loop : tie.InvT-loop
-Inv-loop out₀ at by to₀ n₀ out to n = Behind out₀ out at to × (n ≤ 100)
+Inv-loop out₀ at t to₀ n₀ out to n = Behind out₀ out at to × (n ≤ 100)
 
 abbrev μ-loop : tie.MeasureT-loop
-μ-loop out₀ at by to₀ n₀ out to n = 100 - n
+μ-loop out₀ at t to₀ n₀ out to n = 100 - n
 
 loop-holds : tie.Need-loop-holds Inv-loop μ-loop
 loop-holds c = (behind-none _ (search needs), omega arith)

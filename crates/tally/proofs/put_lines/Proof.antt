@@ -5,6 +5,12 @@ use borrow.Author.Needs.{needs}
 use Rattle.tally.proofs.put_lines.Statement.{statement}
 use Rattle.tally.proofs.put_lines.Tie as tie
 
+added-requires : tie.Need-added-requires
+added-requires c κs = search needs
+
+added-requires-2 : tie.Need-added-requires-2
+added-requires-2 c κs = search needs
+
 slice-aggregate-put-counted : tie.Need-slice-aggregate-put-counted
 slice-aggregate-put-counted c = search needs
 
@@ -39,6 +45,8 @@ pub put-lines-spec : {M : Type 1} → statement M
 put-lines-spec =
     tie.close
     (tie.spec
+    added-requires
+    added-requires-2
     slice-aggregate-put-counted
     slice-aggregate-put-counted-2
     put-counted-requires

@@ -3,22 +3,26 @@
 use mathlib.Core.Path.{_≡_}
 use Prim.Native.Nat.{_+_}
 use lib.ListN.{length}
-use Rattle.limits.specs.Limits.{lineLimit}
+use Rattle.limits.specs.Limits.{lineLimit, spare}
 use borrow.Author.Needs.{needs}
 use Rattle.sheet.proofs.sheet.run.Statement.{statement}
 use Rattle.sheet.proofs.sheet.run.Tie as tie
 
 abbrev Inv-loop : tie.InvT-loop
-Inv-loop fd name session₀ out₀ line₀ turns₀ t₀ session out line turns t = (length session ≡ length session₀) × (length out ≡ length out₀) × (lineLimit + 1 ≡ length line)
+Inv-loop fd name session₀ counts₀ out₀ line₀ store₀ turns₀ t₀ session counts out line store turns t =
+    (length session ≡ length session₀) × (length out ≡ length out₀) × (lineLimit + 1 ≡ length line) × (lineLimit + spare + 1 ≡ length store)
 
 abbrev μ-loop : tie.MeasureT-loop
-μ-loop fd name session₀ out₀ line₀ turns₀ t₀ session out line turns t = turns
+μ-loop fd name session₀ counts₀ out₀ line₀ store₀ turns₀ t₀ session counts out line store turns t = turns
 
 loop-holds : tie.Need-loop-holds Inv-loop μ-loop
 loop-holds c = search needs
 
 slice-aggregate-turn : tie.Need-slice-aggregate-turn Inv-loop μ-loop
 slice-aggregate-turn c = search needs
+
+slice-aggregate-turn-2 : tie.Need-slice-aggregate-turn-2 Inv-loop μ-loop
+slice-aggregate-turn-2 c = search needs
 
 turn-requires : tie.Need-turn-requires Inv-loop μ-loop
 turn-requires c κs = search needs
@@ -58,6 +62,7 @@ run-spec =
     μ-loop
     loop-holds
     slice-aggregate-turn
+    slice-aggregate-turn-2
     turn-requires
     sub-turns
     loop-less
