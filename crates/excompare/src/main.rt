@@ -1,31 +1,20 @@
 // Compares two reports of the console's programs: shows the first line that differs, and says in one sentence what that means. The
 // arguments are the file of a report and what to call it, twice. The verdict is also a digit on descriptor 3, for the script that starts
 // the program: 0 if the reports are the same, 1 if they differ, 2 if they could not be compared or the answer not be written.
-mod above;
-mod compare;
-mod differ;
-mod file;
-mod kind;
-mod names;
 mod show;
-mod tell;
-mod text;
-mod verdict;
-mod whole;
 
-use differ::Report;
+use console::told::FAILED;
+use console::told::hand_over;
+use differences::differ::Report;
+use files::tell::tell_argument;
+use files::tell::tell_failed;
+use files::whole::Whole;
+use files::whole::look;
 use libc::STDOUT_FILENO;
 use scan::part::part;
 use show::Shown;
 use show::failed;
 use show::show;
-use tell::tell_argument;
-use tell::tell_failed;
-use whole::Whole;
-use whole::look;
-
-// Where the script reads the verdict.
-const VERDICT: i32 = 3;
 
 // An argument in a buffer, if it fits: what is wrong is told.
 struct Argument {
@@ -69,17 +58,17 @@ fn opened(i: usize, name: &[u8]) -> Report {
     }
 }
 
-// Writes the answer, and closes standard output: the digit is then 2 if one of them fails, which is told.
-fn written(out: &[u8], s: Shown) -> u8 {
+// Writes the answer, and closes standard output. The verdict is then another if one of them fails, which is told.
+fn written(out: &[u8], s: Shown) -> u64 {
     let sent = io::write_all(STDOUT_FILENO, part(out, 0, s.at));
     if !sent {
         tell_failed(b"standard output");
     }
     if libc::close(STDOUT_FILENO) < 0 {
         tell_failed(b"standard output");
-        return b'2';
+        return FAILED;
     }
-    if sent { s.digit } else { b'2' }
+    if sent { s.verdict } else { FAILED }
 }
 
 // Compares the reports, if both are whole.
@@ -91,7 +80,7 @@ fn answered(out: &mut [u8], a_name: &[u8], a: Report, b_name: &[u8], b: Report) 
 }
 
 // Looks at both reports, compares them, and writes the answer.
-fn compared(a_name: &[u8], b_name: &[u8]) -> u8 {
+fn compared(a_name: &[u8], b_name: &[u8]) -> u64 {
     let a = opened(1, a_name);
     let b = opened(3, b_name);
     let mut out = io::large_buffer();
@@ -99,18 +88,18 @@ fn compared(a_name: &[u8], b_name: &[u8]) -> u8 {
     written(&out, s)
 }
 
-// The digit of the verdict.
-fn digit() -> u8 {
+// The verdict.
+fn verdict() -> u64 {
     let mut a_name = io::buffer();
     let a = given(2, &mut a_name);
     let mut b_name = io::buffer();
     let b = given(4, &mut b_name);
     if !a.good || !b.good {
-        return b'2';
+        return FAILED;
     }
     compared(part(&a_name, 0, a.n), part(&b_name, 0, b.n))
 }
 
 fn main() {
-    io::write_all(VERDICT, &[digit()]);
+    hand_over(verdict());
 }

@@ -1,85 +1,31 @@
-// What is shown of two reports: the first line that differs, as it stands in each, and the verdict.
-use super::above::read_above;
-use super::compare::Outcome;
-use super::compare::compare;
-use super::differ::Place;
-use super::differ::Report;
-use super::file::window;
-use super::kind::Kind;
-use super::kind::kind_of;
-use super::text::first_line;
-use super::verdict::Verdict;
-use super::verdict::put_verdict;
-use super::verdict::verdict_on;
-use super::verdict::verdict_on_names;
-use scan::part::part;
-use texts::put::put_decimal;
+// What is shown of two reports, by what they come to: the first line that differs, and the verdict.
+use console::told::DONE;
+use console::told::FAILED;
+use console::told::REFUSED;
+use differences::compare::Outcome;
+use differences::compare::compare;
+use differences::differ::Place;
+use differences::differ::Report;
+use sides::put_both;
 use texts::put::put_text;
+use verdicts::above::read_above;
+use verdicts::verdict::Verdict;
+use verdicts::verdict::put_verdict;
+use verdicts::verdict::verdict_on;
+use verdicts::verdict::verdict_on_names;
 
-// How many bytes of a line are shown.
-const SHOWN: usize = 4096;
-
-// How far the text was written, the kind of a line in it, and whether the line could be read.
-struct Side {
-    at: usize,
-    kind: Kind,
-    good: bool,
-}
-
-// The same of a line of each report.
-struct Both {
-    at: usize,
-    a: Kind,
-    b: Kind,
-    good: bool,
-}
-
-// What to write out, and the digit of the verdict.
+// How far the text was written, and the verdict: done for reports that tell the same, refused for reports that differ, or failed.
 pub struct Shown {
     pub at: usize,
-    pub digit: u8,
-}
-
-// A line of a report as it stands, or as much of it as is shown.
-fn put_line(out: &mut [u8], at: usize, line: &[u8]) -> usize {
-    let i = put_text(out, at, part(line, 0, SHOWN));
-    if line.len() > SHOWN {
-        return put_text(out, i, b"...\n");
-    }
-    put_text(out, i, b"\n")
-}
-
-// A report's name and the line that starts at a place of it. Its last line, the number, is no line to compare.
-fn put_side(out: &mut [u8], at: usize, name: &[u8], r: Report, start: u64) -> Side {
-    let i = put_text(out, at, name);
-    let j = put_text(out, i, b": ");
-    if r.last <= start {
-        return Side {
-            at: put_text(out, j, b"(the report ends here)\n"),
-            kind: Kind::Other,
-            good: true,
-        };
-    }
-    let mut bytes = io::large_buffer();
-    let n = window(name, r.fd, start, r.last, &mut bytes);
-    let line = first_line(part(&bytes, 0, n));
-    Side {
-        at: put_line(out, j, line),
-        kind: kind_of(line),
-        good: n > 0,
-    }
-}
-
-// The number of a line that differs.
-fn put_place(out: &mut [u8], line: u64) -> usize {
-    let i = put_text(out, 0, b"first difference: line ");
-    let j = put_decimal(out, i, line);
-    put_text(out, j, b" of the reports\n")
+    pub verdict: u64,
 }
 
 // Nothing can be compared, and nothing is shown.
 pub fn failed() -> Shown {
-    Shown { at: 0, digit: b'2' }
+    Shown {
+        at: 0,
+        verdict: FAILED,
+    }
 }
 
 // The reports are the same.
@@ -90,22 +36,7 @@ fn show_equal(out: &mut [u8]) -> Shown {
             0,
             b"equal: every line of the two reports is the same\n",
         ),
-        digit: b'0',
-    }
-}
-
-// The line at a place, as it stands in each report.
-fn put_both(out: &mut [u8], a_name: &[u8], a: Report, b_name: &[u8], b: Report, p: Place) -> Both {
-    let i = put_place(out, p.line);
-    let x = put_side(out, i, a_name, a, p.a);
-    let y = put_side(out, x.at, b_name, b, p.b);
-    let j = x.kind;
-    let k = y.kind;
-    Both {
-        at: y.at,
-        a: j,
-        b: k,
-        good: x.good && y.good,
+        verdict: DONE,
     }
 }
 
@@ -128,7 +59,7 @@ fn show_differ(
     let up = r.above;
     Shown {
         at: put_verdict(out, x.at, verdict_on(p.line, j, k, up)),
-        digit: b'1',
+        verdict: REFUSED,
     }
 }
 
@@ -148,7 +79,7 @@ fn show_names(
     }
     Shown {
         at: put_verdict(out, x.at, v),
-        digit: b'0',
+        verdict: DONE,
     }
 }
 

@@ -1,6 +1,8 @@
 // The oracle's vectors: reading one, building an answer, counting those that agree.
 // A vector: op, the text's length (two bytes, low first), the text, the answer's length (two bytes, low first), the answer.
 use libc::STDOUT_FILENO;
+use limits::refusal::Refusal;
+use limits::refusal::number;
 
 // A vector that was read: its op and the lengths of its text and its answer; or the end; or an input that stops within a vector.
 pub enum Frame {
@@ -77,6 +79,17 @@ pub fn put_number(out: &mut [u8], n: usize, x: u64) -> usize {
         left = left / 128;
     }
     put_byte(out, at, left as u8)
+}
+
+// Two numbers.
+pub fn put_two(out: &mut [u8], n: usize, a: u64, b: u64) -> usize {
+    let m = put_number(out, n, a);
+    put_number(out, m, b)
+}
+
+// An answer that is a refusal: its number.
+pub fn put_refusal(out: &mut [u8], x: Refusal) -> usize {
+    put_number(out, 0, number(x))
 }
 
 // Bytes as they are.
