@@ -71,8 +71,14 @@ def turner(rows):
 
 
 def antt(text, path, plain, turned):
-    """A use names modules by dots, and its names stand in braces; behind other dots stand fields."""
-    names = plain
+    """A use names modules by dots, and its names stand in braces; behind other dots stand fields. What a library has keeps its name."""
+    own = {p.name for p in pathlib.Path('crates').iterdir()}
+    others = set()
+    for m in re.finditer(r'^\s*use ([^\s{]+)\.\{([^}]*)\}', text, re.M):
+        steps = m[1].split('.')
+        if steps[0] != 'Rattle' or steps[1] not in own:
+            others.update(w.split(' as ')[0].strip() for w in m[2].split(','))
+    names = {n: to for n, to in plain.items() if n not in others}
     if str(path).endswith(MADE):
         # The file's own goals and steps are named by what makes them: only names that it brings in are ours.
         mine = set()

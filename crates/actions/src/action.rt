@@ -3,27 +3,27 @@ use super::flags::{CloseFlags, OpenFlags, WriteFlags};
 use lists::list::Item;
 use ranges::range::MoveDir1D;
 
-#[derive(Drop)]
+#[derive(Clone, Copy)]
 pub enum Count {
     Contextual,
     Exact(u64),
 }
 
-#[derive(Drop)]
+#[derive(Clone, Copy)]
 pub enum Axis {
     Horizontal,
     Vertical,
 }
 
 // The side of the current window on which a window is opened.
-#[derive(Drop)]
+#[derive(Clone, Copy)]
 pub enum Side {
     Next,
     Previous,
 }
 
 // Offset's flag is always false, and is left out.
-#[derive(Drop)]
+#[derive(Clone, Copy)]
 pub enum FocusChange {
     Current,
     Offset(u64),
@@ -33,7 +33,7 @@ pub enum FocusChange {
 }
 
 // Of windows or of tabs.
-#[derive(Drop)]
+#[derive(Clone, Copy)]
 pub enum Target {
     Single(FocusChange),
     AllBut(FocusChange),
@@ -41,7 +41,7 @@ pub enum Target {
 }
 
 // What is opened. A name is told by its place in the argument, since an enum cannot hold bytes.
-#[derive(Drop)]
+#[derive(Clone, Copy)]
 pub enum OpenTarget {
     Current,
     Alternate,
@@ -50,20 +50,20 @@ pub enum OpenTarget {
 }
 
 // The file that is written, if it is named; the name is told as above.
-#[derive(Drop)]
+#[derive(Clone, Copy)]
 pub enum WriteName {
     Absent,
     Name(Item),
 }
 
-#[derive(Drop)]
+#[derive(Clone, Copy)]
 pub enum SizeChange {
     Exact(u64),
     Increase(u64),
     Decrease(u64),
 }
 
-#[derive(Drop)]
+#[derive(Clone, Copy)]
 pub enum WindowAction {
     Close(Target, CloseFlags),
     Resize(FocusChange, Axis, SizeChange),
@@ -73,7 +73,7 @@ pub enum WindowAction {
     Write(Target, WriteName, WriteFlags),
 }
 
-#[derive(Drop)]
+#[derive(Clone, Copy)]
 pub enum TabAction {
     Close(Target, CloseFlags),
     Focus(FocusChange),
@@ -81,7 +81,7 @@ pub enum TabAction {
     Open(OpenTarget, OpenFlags, FocusChange),
 }
 
-#[derive(Drop)]
+#[derive(Clone, Copy)]
 pub enum Action {
     Window(WindowAction),
     Tab(TabAction),

@@ -1,5 +1,7 @@
 // What the public functions of `reading` answer to ranges, lists and readings (ops 3 to 7), as the oracle writes it. Ranges and lists have
 // crates of their own.
+#![tactic(auto)]
+
 use limits::refusal::Refusal;
 use list_answers::answer_list;
 use range_answers::{answer_range, put_range};

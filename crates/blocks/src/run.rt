@@ -16,7 +16,7 @@ const FIRST: usize = 16;
 const LONG: usize = 64;
 
 // A run's first bytes: it ends among them, or it goes on behind them.
-#[derive(Drop)]
+#[derive(Clone, Copy)]
 pub enum RunStart {
     Ends(usize),
     GoesOn(usize),

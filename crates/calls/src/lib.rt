@@ -1,5 +1,7 @@
 // The session's calls for the console's programs, which promise nothing of what a line answers: without the session's definitions their
 // checks are short. What these calls answer is stated in `session`.
+#![tactic(auto)]
+
 use run::reply::LineReply;
 use session::lent::{alias_in, fresh_in, line_in};
 

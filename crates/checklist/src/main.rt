@@ -1,6 +1,8 @@
 // Prints the report on an installation: who made it, the spellings and their commands, the orders of a line's prefixes, the reference
 // sheet, and a number that stands for all of it. The first argument is the file of the reference sheet, the second, if there is one, the
 // line.
+#![tactic(auto)]
+
 mod orders_part;
 mod spellings_part;
 

@@ -11,7 +11,7 @@ use utf8::utf8::is_utf8;
 const LONGEST: usize = LINE - 5;
 
 // How far the orders are told, how many agree, and whether one is refused.
-#[derive(Drop)]
+#[derive(Clone, Copy)]
 struct Orders {
     report: Report,
     agree: u64,
@@ -19,7 +19,7 @@ struct Orders {
 }
 
 // The report behind the orders, and whether all of them agree and none is refused.
-#[derive(Drop)]
+#[derive(Clone, Copy)]
 pub struct Ordered {
     pub report: Report,
     pub good: bool,

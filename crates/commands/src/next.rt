@@ -11,7 +11,7 @@ use reading::line::CommandDescription;
 use words::words::Named;
 
 // The role of a command: a prefix of one of three kinds, or an action of its own.
-#[derive(Drop)]
+#[derive(Clone, Copy)]
 pub enum Role {
     Tab,
     Axis(Axis),
@@ -20,7 +20,7 @@ pub enum Role {
 }
 
 // What a prefix sets in the context.
-#[derive(Drop)]
+#[derive(Clone, Copy)]
 pub enum Change {
     Tab(FocusChange),
     Axis(Axis),
@@ -28,7 +28,7 @@ pub enum Change {
 }
 
 // What a reading leads to. Unknown has the place of the word, Again that of the argument.
-#[derive(Drop)]
+#[derive(Clone, Copy)]
 pub enum Next {
     Empty,
     Refused(Refusal),

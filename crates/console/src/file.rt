@@ -7,7 +7,7 @@ use scan::part::{byte_at, part};
 use texts::put::{put_byte, put_decimal, put_quoted, put_text};
 
 // How many bytes were read, their CRC-32 so far, whether more is to be read, and whether nothing failed.
-#[derive(Drop)]
+#[derive(Clone, Copy)]
 pub struct Sum {
     pub bytes: u64,
     pub crc: u64,
@@ -16,7 +16,7 @@ pub struct Sum {
 }
 
 // A file that is open at its start, and its sum.
-#[derive(Drop)]
+#[derive(Clone, Copy)]
 pub struct File {
     pub fd: i32,
     pub sum: Sum,

@@ -1,5 +1,7 @@
 // What the console's programs share of the world outside: their names and version, files that are read twice, a report that is written out
 // and summed, messages of what failed, and the verdict.
+#![tactic(auto)]
+
 pub mod argument;
 pub mod file;
 pub mod program;

@@ -3,7 +3,7 @@ ghost use Rattle.texts.specs.Behind.{Behind};
 
 use texts::put::{put_byte, put_text};
 
-#[derive(Drop)]
+#[derive(Clone, Copy)]
 pub enum Program {
     Exline,
     Exsheet,

@@ -14,7 +14,7 @@ const TOLD: usize = 24576;
 
 // How far a report is: whose it is, where it ends in the buffer, the sum of what was written out before it, and whether all of that could be
 // written. One that is not `shown` is dropped instead.
-#[derive(Drop)]
+#[derive(Clone, Copy)]
 pub struct Report {
     pub program: Program,
     pub at: usize,

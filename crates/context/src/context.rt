@@ -8,34 +8,34 @@ use actions::action::{
 use actions::flags::OpenFlags;
 
 // The tab that a tab prefix set.
-#[derive(Drop)]
+#[derive(Clone, Copy)]
 pub enum TabSet {
     Unset,
     To(FocusChange),
 }
 
 // The axis that an axis prefix set.
-#[derive(Drop)]
+#[derive(Clone, Copy)]
 pub enum AxisSet {
     Unset,
     To(Axis),
 }
 
 // The side that a side prefix set.
-#[derive(Drop)]
+#[derive(Clone, Copy)]
 pub enum SideSet {
     Unset,
     To(Side),
 }
 
 // The size asked for by a range, if there is one.
-#[derive(Drop)]
+#[derive(Clone, Copy)]
 pub enum Size {
     Absent,
     Given(Count),
 }
 
-#[derive(Drop)]
+#[derive(Clone, Copy)]
 pub struct CommandContext {
     pub tab: TabSet,
     pub axis: AxisSet,

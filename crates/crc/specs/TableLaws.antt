@@ -30,8 +30,8 @@ bit_pick : (c : ℕ) → crc_bit c ≡ pick 0xEDB88320 (c % 2) (c / 2)
 unfolding crc_bit pick
 bit_pick c = refl
 
-bit_xor : (a b : ℕ) → crc_bit (bit_xor a b) ≡ bit_xor (crc_bit a) (crc_bit b)
-bit_xor a b =
+bit_xor_lem : (a b : ℕ) → crc_bit (bit_xor a b) ≡ bit_xor (crc_bit a) (crc_bit b)
+bit_xor_lem a b =
     bit_pick (bit_xor a b)
     ∙ ap₂ (pick 0xEDB88320) (xor_odd a b) (xor_half a b)
     ∙ pick_xor 0xEDB88320 (a % 2) (b % 2) (a / 2) (b / 2) (omega arith) (omega arith)
@@ -56,7 +56,7 @@ eight c = crc_bit (crc_bit (crc_bit (crc_bit (crc_bit (crc_bit (crc_bit (crc_bit
 
 eight_xor : (a b : ℕ) → eight (bit_xor a b) ≡ bit_xor (eight a) (eight b)
 unfolding eight
-eight_xor a b = simp bit_xor
+eight_xor a b = simp bit_xor_lem
 
 byte_xor : (a b : ℕ) → crc_byte (bit_xor a b) 0 ≡ bit_xor (crc_byte a 0) (crc_byte b 0)
 unfolding crc_byte eight

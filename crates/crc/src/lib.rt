@@ -1,4 +1,6 @@
 // CRC-32. A report is summed part by part: start, then the bytes of each part, then the end.
+#![tactic(auto)]
+
 mod bits;
 mod table;
 

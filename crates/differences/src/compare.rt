@@ -6,7 +6,7 @@ use scan::part::part;
 
 // What two reports come to: the same; the same but for the name of the sheet, of the alias file or of both, first at a place; a place
 // where they differ; or a read that failed.
-#[derive(Drop)]
+#[derive(Clone, Copy)]
 pub enum Outcome {
     Equal,
     Names(Place, bool, bool),
@@ -16,7 +16,7 @@ pub enum Outcome {
 
 // How far two reports were compared: from where on more is to be compared, where a name differed first, whether the sheet's did and the
 // alias file's, and the outcome once no more is to be compared.
-#[derive(Drop)]
+#[derive(Clone, Copy)]
 struct Search {
     from: Place,
     first: Place,

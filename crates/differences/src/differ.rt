@@ -4,14 +4,14 @@ use reports::text::{common, count_ends};
 use scan::part::part;
 
 // A report that is open, and where its last line starts.
-#[derive(Drop)]
+#[derive(Clone, Copy)]
 pub struct Report {
     pub fd: i32,
     pub last: u64,
 }
 
 // A line: its number, and where it starts in each report.
-#[derive(Drop)]
+#[derive(Clone, Copy)]
 pub struct Place {
     pub line: u64,
     pub a: u64,
@@ -19,7 +19,7 @@ pub struct Place {
 }
 
 // What two reports come to from a place on.
-#[derive(Drop)]
+#[derive(Clone, Copy)]
 pub enum Found {
     Same,
     At(Place),
@@ -28,7 +28,7 @@ pub enum Found {
 
 // How far two reports were compared: the line that was reached, how many of its bytes are the same, whether more is to be compared, and
 // whether a read failed.
-#[derive(Drop)]
+#[derive(Clone, Copy)]
 struct Walk {
     line: u64,
     a: u64,

@@ -1,4 +1,6 @@
 // The session over C: include/pagyolint.h declares these functions, with each argument's rule.
+#![tactic(auto)]
+
 ghost use Rattle.std.specs.Prelude.{◌≡◌, length};
 ghost use Rattle.commands.specs.Line.{store_after};
 ghost use Rattle.run.specs.Reply.{reply};

@@ -1,6 +1,8 @@
 // Compares two reports of the console's programs: shows the first line that differs, and says in one sentence what that means. The
 // arguments are the file of a report and what to call it, twice. The verdict is also a digit on descriptor 3, for the script that starts
 // the program: 0 if the reports are the same, 1 if they differ, 2 if they could not be compared or the answer not be written.
+#![tactic(auto)]
+
 mod show;
 
 use console::told::{FAILED, hand_over};
@@ -12,7 +14,7 @@ use scan::part::part;
 use show::{Shown, failed, show};
 
 // An argument in a buffer, if it fits: what is wrong is told.
-#[derive(Drop)]
+#[derive(Clone, Copy)]
 struct Argument {
     n: usize,
     good: bool,

@@ -8,7 +8,7 @@ use verdicts::above::read_above;
 use verdicts::verdict::{Verdict, put_verdict, verdict_on, verdict_on_names};
 
 // How far the text was written, and the verdict: done for reports that tell the same, refused for reports that differ, or failed.
-#[derive(Drop)]
+#[derive(Clone, Copy)]
 pub struct Shown {
     pub at: usize,
     pub verdict: u64,

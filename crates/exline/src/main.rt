@@ -1,5 +1,7 @@
 // Runs one line on a fresh session: its argument, or all of standard input. Prints refusal, readings and, in hex, what was written; a
 // refusal is told in words on standard error too, with the line and a mark under the place that it is about.
+#![tactic(auto)]
+
 use calls::{fresh, run_line};
 use console::argument::argument;
 use console::program::{Program, put_program};
@@ -14,7 +16,7 @@ use scan::part::part;
 use texts::put::{put_byte, put_text};
 
 // How much of the line is there, whether more is to be read, and whether nothing failed.
-#[derive(Drop)]
+#[derive(Clone, Copy)]
 struct Taken {
     count: usize,
     more: bool,

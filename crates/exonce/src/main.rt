@@ -1,5 +1,7 @@
 // Takes all of standard input as one line and runs it twice: on a session that is lent, and on one by value. Prints refusal, readings and
 // byte count that the first answered, and whether both wrote the same.
+#![tactic(auto)]
+
 use libc::{STDIN_FILENO, STDOUT_FILENO};
 use limits::{LINE, STORE};
 use routine::once;

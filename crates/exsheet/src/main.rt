@@ -2,6 +2,8 @@
 // each bad alias, a line for each line of the sheet, a line that sums up, and the number of the report.
 // Arguments: the sheet's path and its name, those of the alias file, empty if there is none, and whether the program may have been called
 // as it was before, with the alias file as its argument. Standard input has the empty name.
+#![tactic(auto)]
+
 use calls::fresh;
 use console::argument::argument;
 use console::file::{File, Sum, ended, is_same, no_file, open_file, put_file, rewound, say_of};

@@ -1,5 +1,7 @@
 // Takes all of standard input as one line, and prints its tokens, one to a line: the kind, the place of the first byte, and the place
 // past the last.
+#![tactic(auto)]
+
 use libc::{STDIN_FILENO, STDOUT_FILENO};
 use limits::LINE;
 use scan::part::part;

@@ -8,7 +8,7 @@ use scan::part::{byte_at, part};
 
 // What a file is: a report, and where its last line starts; nothing that can be read, which was told; no report; one whose last line has
 // no number; or one whose number and whose bytes differ.
-#[derive(Drop)]
+#[derive(Clone, Copy)]
 pub enum Whole {
     Last(u64),
     Unread,
@@ -18,7 +18,7 @@ pub enum Whole {
 }
 
 // The number of a last line.
-#[derive(Drop)]
+#[derive(Clone, Copy)]
 enum Number {
     Is(u64),
     Absent,
@@ -81,7 +81,7 @@ fn is_report(s: &[u8]) -> bool {
 }
 
 // The sum of the bytes of a file that come before `stop`, as far as it was made.
-#[derive(Drop)]
+#[derive(Clone, Copy)]
 struct Sum {
     crc: u64,
     at: u64,

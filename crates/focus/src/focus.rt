@@ -11,14 +11,14 @@ use ranges::range::{RangeEnding, RangeEndingType, RangeRead, RangeSpec};
 use scan::part::text_again;
 
 // The focus that a range names, or a refusal.
-#[derive(Drop)]
+#[derive(Clone, Copy)]
 pub enum Focused {
     To(FocusChange),
     Refused(Refusal),
 }
 
 // The count that a range names, or a refusal.
-#[derive(Drop)]
+#[derive(Clone, Copy)]
 pub enum Counted {
     Exact(u64),
     Refused(Refusal),

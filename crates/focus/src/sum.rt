@@ -12,7 +12,7 @@ use scan::part::byte_at;
 const MANY: usize = 64;
 
 // A sum of offsets: its direction and size, or that it passed 2^64 - 1.
-#[derive(Drop)]
+#[derive(Clone, Copy)]
 pub enum Sum {
     Is(MoveDir1D, u64),
     Over,
@@ -56,7 +56,7 @@ fn add_is(d: MoveDir1D, n: u64, plus: bool, k: u64) -> Sum
 }
 
 // A sum of offsets up to a position: its direction and size.
-#[derive(Drop)]
+#[derive(Clone, Copy)]
 pub struct Begun {
     pub d: MoveDir1D,
     pub n: u64,

@@ -10,7 +10,7 @@ use limits::refusal::Refusal;
 use reading::line::CommandDescription;
 
 // What is closed, or a refusal.
-#[derive(Drop)]
+#[derive(Clone, Copy)]
 pub enum Closed {
     At(Target),
     Refused(Refusal),

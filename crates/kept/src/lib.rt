@@ -1,1 +1,2 @@
 // What every call keeps of a session, which bytes are free, and demand 3 for sessions: theorems, and no code.
+#![tactic(auto)]

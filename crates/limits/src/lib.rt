@@ -1,5 +1,7 @@
 // What document 01 fixes by number: how long and how many things may be, and why a call is turned down. Each limit has its name here, and
 // in specs/Limits.antt the same for the definitions.
+#![tactic(auto)]
+
 pub mod refusal;
 
 // A line is at most so many bytes long: refusal 1.

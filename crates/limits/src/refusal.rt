@@ -2,7 +2,7 @@
 ghost use Rattle.std.specs.Prelude.{◌≡◌, ◌<◌, length};
 ghost use Rattle.limits.specs.Refusals.{refusal_no, refusals, refusal_of, place_of};
 
-#[derive(Drop)]
+#[derive(Clone, Copy)]
 pub enum Refusal {
     LineTooLong,
     NotUtf8,
@@ -42,7 +42,7 @@ pub fn number(x: Refusal) -> u64
 }
 
 // What a number says of a call: it was not refused, it was for a reason, or no call answers it.
-#[derive(Drop)]
+#[derive(Clone, Copy)]
 pub enum Numbered {
     Accepted,
     Refused(Refusal),

@@ -1,5 +1,7 @@
 // What `reading` answers to a text that is a list of file names, strings or options (ops 4 to 6), as the oracle writes it: a refusal, or
 // how many items there are, and each. An item is asked for by its place.
+#![tactic(auto)]
+
 use limits::{LINE, STORE};
 use lists::option::OptionType;
 use reading::alone::{FilenameType, FilenamesReply, OptionsReply, StringsReply};
@@ -7,7 +9,7 @@ use scan::part::part;
 use vectors::{put_name, put_number, put_refusal, put_two};
 
 // One item of a list, read by its place: the answer so far, and whether there was such an item.
-#[derive(Drop)]
+#[derive(Clone, Copy)]
 struct ItemTurn {
     n: usize,
     more: bool,

@@ -13,28 +13,28 @@ use blocks::run::skip_spaces;
 use scan::part::byte_at;
 
 // An item: from its first byte up to the byte past its last, quotes and escapes included.
-#[derive(Drop)]
+#[derive(Clone, Copy)]
 pub struct Item {
     pub start: usize,
     pub end: usize,
 }
 
 // The item at a place: still so many items ahead, or found.
-#[derive(Drop)]
+#[derive(Clone, Copy)]
 pub enum Picked {
     Ahead(usize),
     Item(Item),
 }
 
 // What was seen of a list: how many items, whether one is a flag with an empty key, and the item at the place asked for.
-#[derive(Drop)]
+#[derive(Clone, Copy)]
 pub struct Seen {
     pub count: usize,
     pub keyless: bool,
     pub picked: Picked,
 }
 
-#[derive(Drop)]
+#[derive(Clone, Copy)]
 pub enum ListRead {
     List(Seen),
     Bad,

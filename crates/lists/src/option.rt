@@ -14,7 +14,7 @@ use scan::classes::{Kind, is_kind};
 use scan::part::byte_at;
 
 // An option: its kind, and the byte counts of its text, or of its key and value.
-#[derive(Drop)]
+#[derive(Clone, Copy)]
 pub enum OptionType {
     Positional(usize),
     Flag(usize),
@@ -22,21 +22,21 @@ pub enum OptionType {
 }
 
 // The first byte that a text stands for and where the next one starts, or that the text ends.
-#[derive(Drop)]
+#[derive(Clone, Copy)]
 pub enum Emitted {
     Byte(u8, usize),
     Nothing,
 }
 
 // Where the key of a flag starts, past `++`.
-#[derive(Drop)]
+#[derive(Clone, Copy)]
 pub enum FlagRead {
     Key(usize),
     Positional,
 }
 
 // How many bytes a key has, and where it ends.
-#[derive(Drop)]
+#[derive(Clone, Copy)]
 pub struct Key {
     pub count: usize,
     pub next: usize,

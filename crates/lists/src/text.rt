@@ -15,28 +15,28 @@ use scan::part::{byte_at, part};
 use store::{put_bytes, put_number};
 
 // What a backslash and the byte after it stand for.
-#[derive(Drop)]
+#[derive(Clone, Copy)]
 pub enum Escape {
     Byte(u8),
     Bad,
 }
 
 // Escapes that stand one after the other: the position past them, and how many; or, where they are written, the place after.
-#[derive(Drop)]
+#[derive(Clone, Copy)]
 pub struct Escapes {
     pub at: usize,
     pub n: usize,
 }
 
 // Where a text ends.
-#[derive(Drop)]
+#[derive(Clone, Copy)]
 pub enum TextEnd {
     End(usize),
     Bad,
 }
 
 // The text of an item without its quotes: whether it is quoted, and where its first byte or escape stands.
-#[derive(Drop)]
+#[derive(Clone, Copy)]
 pub struct ItemText {
     pub quoted: bool,
     pub from: usize,

@@ -1,5 +1,7 @@
 // A reading or a run of a text, to be counted in instructions: the first byte of standard input says which, the rest is the text.
 // It prints a number that depends on the answer, so that no work is left out.
+#![tactic(auto)]
+
 use layout::bytes::sound;
 use layout::places::SESSION;
 use libc::{STDIN_FILENO, STDOUT_FILENO};

@@ -5,7 +5,7 @@ use scan::part::part;
 use texts::put::{put_byte, put_text};
 
 // The kinds that were seen, and the prefixes that are kept, by their weights.
-#[derive(Drop)]
+#[derive(Clone, Copy)]
 struct Keeping {
     seen: u8,
     kept: u8,

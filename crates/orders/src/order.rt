@@ -4,7 +4,7 @@ ghost use Rattle.orders.specs.Order.{order_of, orders_of};
 ghost use Rattle.orders.specs.Picking.{free_from, is_in, picked_of, weight_of};
 
 // Which of five are taken, by weights 1, 2, 4, 8, 16, what is left of the order's number, and the order so far.
-#[derive(Drop)]
+#[derive(Clone, Copy)]
 struct Picking {
     used: u8,
     rest: u64,

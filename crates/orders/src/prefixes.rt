@@ -6,7 +6,7 @@ use words::words::lookup;
 
 // How many prefixes there are, of which the first five are kept: where each starts and stops as typed, with its range and bang, and its
 // kind, 1 for tab, 2 for an axis and 4 for a side; and where the last text starts and stops.
-#[derive(Drop)]
+#[derive(Clone, Copy)]
 pub struct Prefixes {
     pub count: usize,
     pub starts: [usize; 5],
@@ -17,14 +17,14 @@ pub struct Prefixes {
 }
 
 // A prefix: its kind, where it stops, and where its argument starts and stops; or the last text.
-#[derive(Drop)]
+#[derive(Clone, Copy)]
 enum Found {
     Prefix(u8, usize, usize, usize),
     Last,
 }
 
 // How far the prefixes are found.
-#[derive(Drop)]
+#[derive(Clone, Copy)]
 struct Finding {
     found: Prefixes,
     more: bool,

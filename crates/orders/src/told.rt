@@ -11,7 +11,7 @@ use scan::part::part;
 use texts::put::{put_byte, put_quoted, put_text};
 
 // Where an order is told up to, whether it agrees, and whether its line is refused.
-#[derive(Drop)]
+#[derive(Clone, Copy)]
 pub struct Told {
     pub at: usize,
     pub agrees: bool,

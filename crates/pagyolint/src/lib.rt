@@ -1,4 +1,6 @@
 // The library over C: include/pagyolint.h declares these functions, with each argument's rule.
+#![tactic(auto)]
+
 pub mod text;
 
 ghost use Rattle.std.specs.Prelude.{◌≡◌, length};

@@ -1,4 +1,6 @@
 // Parts of a record in words: numbers, names, texts for numbers, a focus. Document 01, section Session, "The record".
+#![tactic(auto)]
+
 pub mod focus;
 pub mod number;
 pub mod step;

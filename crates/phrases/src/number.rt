@@ -2,7 +2,7 @@
 use scan::part::part;
 
 // A number of a record: its value, the place behind it, and whether one stands there in its shortest form.
-#[derive(Drop)]
+#[derive(Clone, Copy)]
 pub struct NumberRead {
     pub value: u64,
     pub next: usize,

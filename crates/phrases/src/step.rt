@@ -7,7 +7,7 @@ use scan::part::part;
 use texts::put::{put_decimal, put_quoted, put_text};
 
 // How far a record is read and its words are written, and whether all read so far was part of a record.
-#[derive(Drop)]
+#[derive(Clone, Copy)]
 pub struct Step {
     pub from: usize,
     pub at: usize,

@@ -4,7 +4,7 @@
 use Rattle.std.specs.Prelude.{◌≡◌, Bool, false, not, ◌&&◌, ℕ, zero, suc, ◌+◌, ◌-◌, ◌*◌, ◌<◌, ◌≤◌, ltb, drop, set}
 use Rattle.std.proofs.Math.Path.{refl, sym, ap}
 use Rattle.std.proofs.Common.{◌∙◌, mul-le-mul_right, length-append, length-set, get_or-take, get_or-drop}
-use Rattle.std.proofs.Math.Bool.{true, cond, and_false}
+use Rattle.std.proofs.Math.Bool.{true, cond, and-false}
 use mathlib.Core.List.{List, [], ◌∷◌, ◌++◌, append-nil}
 use native.Mathlib.Omega.{arith}
 use Rattle.std.proofs.Math.Dec.{leb}
@@ -329,7 +329,7 @@ module _ (at most : ℕ) (w : List ℕ) (c : ℕ) (b : List ℕ) where
 
   pub untaken_refused : (table at most).test b ≡ false → (false ≡ has_place at most w b) × (b ≡ inserting at most w c b)
   unfolding has_place
-  untaken_refused h = refused (rw (h, and_false (leb 1 (length w) && leb (length w) word_limit)))
+  untaken_refused h = refused (rw (h, and-false (leb 1 (length w) && leb (length w) word_limit)))
 
   pub none_refused : length w ≡ 0 → (false ≡ has_place at most w b) × (b ≡ inserting at most w c b)
   unfolding has_place

@@ -16,7 +16,7 @@ use tables::frame::{end_of, start_of};
 use tables::good::good;
 
 // Where a word goes among others: the number of its row, the place of its bytes, and whether it is there already.
-#[derive(Drop)]
+#[derive(Clone, Copy)]
 struct Spot {
     row: usize,
     place: usize,

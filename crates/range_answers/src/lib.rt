@@ -1,5 +1,7 @@
 // What `reading` answers to a text that is a range (op 3), as the oracle writes it: a refusal, or the range with its ends, their atoms and
 // offsets. A reading that has a range writes it in the same way.
+#![tactic(auto)]
+
 mod offset;
 
 use offset::put_offsets;

@@ -3,7 +3,7 @@
 use vectors::put_number;
 
 // An offset that is being read: its digits so far, and whether there was one.
-#[derive(Drop)]
+#[derive(Clone, Copy)]
 struct OffsetRead {
     previous: bool,
     digits: bool,
@@ -47,7 +47,7 @@ fn put_offset(out: &mut [u8], n: usize, o: OffsetRead) -> usize {
 }
 
 // How far the offsets are written: the answer so far, whether an offset has begun, and that offset.
-#[derive(Drop)]
+#[derive(Clone, Copy)]
 struct Walk {
     at: usize,
     begun: bool,

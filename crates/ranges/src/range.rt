@@ -13,14 +13,14 @@ use scan::part::{byte_at, text_again};
 // How long a text is where offsets may be many.
 const MANY: usize = 64;
 
-#[derive(Drop)]
+#[derive(Clone, Copy)]
 pub enum MoveDir1D {
     Next,
     Previous,
 }
 
 // An atom. `\&` always searches forward, and a mark is the byte that names it.
-#[derive(Drop)]
+#[derive(Clone, Copy)]
 pub enum RangeEndingType {
     Unspecified,
     Absolute(u64),
@@ -33,7 +33,7 @@ pub enum RangeEndingType {
 }
 
 // An atom and the position past it.
-#[derive(Drop)]
+#[derive(Clone, Copy)]
 pub enum AtomRead {
     Absent,
     Found(RangeEndingType, usize),
@@ -41,48 +41,48 @@ pub enum AtomRead {
 }
 
 // An offset behind its sign: its size, the position past it, and the byte there.
-#[derive(Drop)]
+#[derive(Clone, Copy)]
 pub enum Offset {
     Is(u64, usize, u8),
     TooLarge,
 }
 
 // The position past the offsets.
-#[derive(Drop)]
+#[derive(Clone, Copy)]
 pub enum OffsetsRead {
     End(usize),
     TooLarge,
 }
 
 // An end: its offsets stand from `from` up to `to`.
-#[derive(Drop)]
+#[derive(Clone, Copy)]
 pub struct RangeEnding {
     pub atom: RangeEndingType,
     pub from: usize,
     pub to: usize,
 }
 
-#[derive(Drop)]
+#[derive(Clone, Copy)]
 pub enum EndingRead {
     Found(RangeEnding),
     TooLarge,
 }
 
 // The separator: `,` is Cursor, `;` is Start.
-#[derive(Drop)]
+#[derive(Clone, Copy)]
 pub enum RangeSearchInit {
     Cursor,
     Start,
 }
 
-#[derive(Drop)]
+#[derive(Clone, Copy)]
 pub enum RangeSpec {
     Single(RangeEnding),
     Double(RangeEnding, RangeEnding, RangeSearchInit),
 }
 
 // A range and the position past it.
-#[derive(Drop)]
+#[derive(Clone, Copy)]
 pub enum RangeRead {
     Absent,
     Found(RangeSpec, usize),
@@ -90,7 +90,7 @@ pub enum RangeRead {
 }
 
 // A whole text read as a range.
-#[derive(Drop)]
+#[derive(Clone, Copy)]
 pub enum WholeRead {
     Range(RangeSpec),
     Bad,

@@ -19,7 +19,7 @@ use scan::classes::classes;
 use utf8::utf8::is_utf8;
 
 // A file name: a lone `#`, a lone `%`, or a name of so many bytes.
-#[derive(Drop)]
+#[derive(Clone, Copy)]
 pub enum FilenameType {
     Alternate,
     Current,
@@ -27,35 +27,35 @@ pub enum FilenameType {
 }
 
 // The count of items, and the one at the place, if there is one.
-#[derive(Drop)]
+#[derive(Clone, Copy)]
 pub enum FilenamesReply {
     Refused(Refusal),
     Beyond(usize),
     Item(usize, FilenameType),
 }
 
-#[derive(Drop)]
+#[derive(Clone, Copy)]
 pub enum StringsReply {
     Refused(Refusal),
     Beyond(usize),
     Item(usize, usize),
 }
 
-#[derive(Drop)]
+#[derive(Clone, Copy)]
 pub enum OptionsReply {
     Refused(Refusal),
     Beyond(usize),
     Item(usize, OptionType),
 }
 
-#[derive(Drop)]
+#[derive(Clone, Copy)]
 pub enum RangeReply {
     Refused(Refusal),
     Range(RangeSpec),
 }
 
 // What the checks 1, 12 and 2 say.
-#[derive(Drop)]
+#[derive(Clone, Copy)]
 pub enum Checked {
     Good,
     Bad(Refusal),

@@ -15,21 +15,21 @@ use scan::part::{byte_at, part};
 use scan::run::run_end;
 
 // Where a word ends, and where the reading goes on.
-#[derive(Drop)]
+#[derive(Clone, Copy)]
 pub enum WordRead {
     Word(usize, usize),
     Bad,
 }
 
 // Where a word must stand, or that the range before it has a number that is too large.
-#[derive(Drop)]
+#[derive(Clone, Copy)]
 pub enum WordPlace {
     At(usize),
     TooLarge,
 }
 
 // What a text says: its range, where its word and its argument start and end, and whether it has a bang.
-#[derive(Drop)]
+#[derive(Clone, Copy)]
 pub struct CommandDescription {
     pub range: RangeRead,
     pub word: usize,
@@ -39,7 +39,7 @@ pub struct CommandDescription {
     pub stop: usize,
 }
 
-#[derive(Drop)]
+#[derive(Clone, Copy)]
 pub enum CommandRead {
     Command(CommandDescription),
     Failed,

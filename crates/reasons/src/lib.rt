@@ -1,4 +1,6 @@
 // Refusals in words: those of bindings/rust/src/words.rs.
+#![tactic(auto)]
+
 ghost use Rattle.texts.specs.Behind.{Behind};
 
 use limits::refusal::{Numbered, Refusal, number, refusal_of};

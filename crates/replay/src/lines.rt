@@ -6,7 +6,7 @@ use run::reply::LineReply;
 use scan::part::{byte_at, part};
 
 // The session's bytes after a vector, and where its answer ends.
-#[derive(Drop)]
+#[derive(Clone, Copy)]
 pub struct Answered {
     pub session: [u8; SESSION],
     pub end: usize,

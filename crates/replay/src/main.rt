@@ -1,4 +1,6 @@
 // Replays the oracle's vectors and prints how many agree. An answer is built as the oracle writes it, byte for byte.
+#![tactic(auto)]
+
 mod lines;
 
 use layout::places::SESSION;
@@ -8,7 +10,7 @@ use scan::part::part;
 use vectors::{Frame, Tally};
 
 // How far the run is, and the bytes of the session that goes on from vector to vector.
-#[derive(Drop)]
+#[derive(Clone, Copy)]
 struct Replay {
     tally: Tally,
     session: [u8; SESSION],

@@ -1,4 +1,6 @@
 // One line of a report, written into a lent buffer.
+#![tactic(auto)]
+
 ghost use Rattle.texts.specs.Behind.{Behind};
 
 use limits::LINE;

@@ -7,7 +7,7 @@ use scan::decimal::{Decimal, digits, is_digit};
 use scan::part::{byte_at, part};
 
 // The kinds of lines. A numbered line is of the sheet, or of a checklist's orders.
-#[derive(Drop)]
+#[derive(Clone, Copy)]
 pub enum Kind {
     Exsheet,
     Checklist,

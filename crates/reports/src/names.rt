@@ -3,14 +3,14 @@ use super::text::{equal, line_end, starts};
 use scan::part::part;
 
 // Whether two lines differ in a name alone, and where each of them ends.
-#[derive(Drop)]
+#[derive(Clone, Copy)]
 pub enum Named {
     Name(usize, usize),
     More,
 }
 
 // Where the last two commas of a line stand; its end for one that it does not have.
-#[derive(Drop)]
+#[derive(Clone, Copy)]
 struct Commas {
     first: usize,
     second: usize,

@@ -53,7 +53,7 @@ pub fn first_line(s: &[u8]) -> &[u8] {
 }
 
 // How many lines end in a text, and where the last of them does.
-#[derive(Drop)]
+#[derive(Clone, Copy)]
 pub struct Ends {
     pub lines: u64,
     pub behind: usize,

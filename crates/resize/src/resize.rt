@@ -15,7 +15,7 @@ use ranges::range::{
 use reading::line::{CommandDescription, argument};
 
 // How a window changes, or a refusal.
-#[derive(Drop)]
+#[derive(Clone, Copy)]
 pub enum Resized {
     By(SizeChange),
     Refused(Refusal),

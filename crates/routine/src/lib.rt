@@ -1,4 +1,6 @@
 // A session lent to the caller's routine and updated there. Each call hands the session by value to the core and writes it back.
+#![tactic(auto)]
+
 ghost use Rattle.std.specs.Prelude.{◌≡◌, length, replicate};
 ghost use Rattle.commands.specs.Line.{store_after};
 ghost use Rattle.layout.specs.Layout.{session_size, fresh as fresh_one, written};

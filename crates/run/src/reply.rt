@@ -16,7 +16,7 @@ use store::put_name;
 
 // What a line answers: the refusal's number or 0, the readings, and how many bytes it wrote at the front of the store.
 #[repr(C)]
-#[derive(Drop)]
+#[derive(Clone, Copy)]
 pub struct LineReply {
     pub refusal: u64,
     pub readings: u64,

@@ -3,7 +3,7 @@ ghost use Rattle.std.specs.Prelude.{◌≡◌};
 ghost use Rattle.scan.specs.Bytes.{class_of, is_kind, Classes};
 
 // What a byte can be; each kind has its rule in specs/Bytes.antt.
-#[derive(Drop)]
+#[derive(Clone, Copy)]
 pub enum Kind {
     Space,
     Colon,

@@ -9,7 +9,7 @@ use super::part::byte_at;
 use limits::MOST;
 
 // Decimal digits at a position: none, or their value and the position past them, or a value above 2^64 - 1.
-#[derive(Drop)]
+#[derive(Clone, Copy)]
 pub enum Decimal {
     Absent,
     Value(u64, usize),

@@ -1,6 +1,8 @@
 // A scanner over the caller's line, for tools that highlight it: it hands out the line's tokens one after the other.
 // Each function takes the scanner apart and leaves the work to `token`. A tool that finds a prefix word makes another scanner over the
 // argument, which is the next reading's text.
+#![tactic(auto)]
+
 pub mod token;
 
 ghost use Rattle.std.specs.Prelude.{◌≡◌};
@@ -9,7 +11,7 @@ ghost use Rattle.scanner.specs.Tokens.{step_at, covering};
 use token::{Position, Token, covering_token, step};
 
 // The line, and where the scanner stands.
-#[derive(Drop)]
+#[derive(Clone, Copy)]
 pub struct Scanner<'a> {
     pub line: &'a [u8],
     pub position: Position,

@@ -17,7 +17,7 @@ use scan::run::run_end;
 
 // `Newline` is a 0x0A that a reading consumes, `Unlisted` the rest of an argument that is no list, `Left` what a failed reading leaves over,
 // `End` that nothing is left.
-#[derive(Drop)]
+#[derive(Clone, Copy)]
 pub enum TokenKind {
     Space,
     Colon,
@@ -33,7 +33,7 @@ pub enum TokenKind {
 }
 
 // A token: its first byte, and the byte past its last.
-#[derive(Drop)]
+#[derive(Clone, Copy)]
 pub struct Token {
     pub kind: TokenKind,
     pub start: usize,
@@ -42,14 +42,14 @@ pub struct Token {
 
 // Where a scanner stands: the place of its next token, in the lead of the line, or in the argument and behind it, where the lead is not
 // read again.
-#[derive(Drop)]
+#[derive(Clone, Copy)]
 pub enum Position {
     Lead(usize),
     Argument(usize),
 }
 
 // What a scanner hands out, and where it then stands.
-#[derive(Drop)]
+#[derive(Clone, Copy)]
 pub struct Scanned {
     pub token: Token,
     pub position: Position,
@@ -57,7 +57,7 @@ pub struct Scanned {
 
 // Where each piece of a line's lead ends: spaces, colons, spaces, range, word, the 0x0A that an empty word consumes, bang, spaces; and
 // where the argument starts, which is the line's end where the reading fails before it.
-#[derive(Drop)]
+#[derive(Clone, Copy)]
 pub struct Lead {
     pub spaces: usize,
     pub colons: usize,

@@ -1,4 +1,6 @@
 // The sentences of the refusals as rows of bytes, as `spellings` has its words: for each its length, its refusal's number and its bytes.
+#![tactic(auto)]
+
 ghost use Rattle.std.specs.Prelude.{◌≡◌};
 ghost use Rattle.spellings.specs.Rows.{rows_of};
 ghost use Rattle.sentences.specs.Sentences.{sentences as sentences_of};

@@ -30,7 +30,7 @@ use words::words::Named;
 
 // What reading the remembered line back answers: the refusal's number or 0, and the line's byte count.
 #[repr(C)]
-#[derive(Drop)]
+#[derive(Clone, Copy)]
 pub struct CountReply {
     pub refusal: u64,
     pub count: u64,

@@ -9,20 +9,20 @@ use super::lent::{CountReply, alias_in, fresh_in, line_in, remembered_in};
 use layout::places::SESSION;
 use run::reply::LineReply;
 
-#[derive(Drop)]
+#[derive(Clone, Copy)]
 pub struct Session {
     pub bytes: [u8; SESSION],
 }
 
 // What a line answers, and the session afterwards.
-#[derive(Drop)]
+#[derive(Clone, Copy)]
 pub struct Lined {
     pub reply: LineReply,
     pub session: Session,
 }
 
 // What adding an alias answers, 0 or the refusal's number, and the session afterwards.
-#[derive(Drop)]
+#[derive(Clone, Copy)]
 pub struct Added {
     pub refusal: u64,
     pub session: Session,

@@ -11,7 +11,7 @@ use utf8::utf8::is_utf8;
 use words::words::{Named, lookup};
 
 // What a line came to: 0 or a refusal, whether it has an alias (1) or nothing (0), and for 10 where the word stands that no command has.
-#[derive(Drop)]
+#[derive(Clone, Copy)]
 pub struct Added {
     pub refusal: u64,
     pub kind: u8,

@@ -18,7 +18,7 @@ use texts::put::put_text;
 
 // How far a sheet is: whether its lines are aliases, how many lines were told, whether one of them ends in a carriage return, how many bytes
 // of the next one are held, what was read, and the report.
-#[derive(Drop)]
+#[derive(Clone, Copy)]
 pub struct Sheet {
     pub aliases: bool,
     pub number: u64,

@@ -1,5 +1,7 @@
 // The line that differs as it stands in each of two reports: its number, and for each report what to call it and the line, or as much of it
 // as is shown.
+#![tactic(auto)]
+
 use differences::differ::{Place, Report};
 use files::file::window;
 use reports::kind::{Kind, kind_of};
@@ -11,7 +13,7 @@ use texts::put::{put_decimal, put_text};
 const SHOWN: usize = 4096;
 
 // How far the text was written, the kind of a line in it, and whether the line could be read.
-#[derive(Drop)]
+#[derive(Clone, Copy)]
 struct Side {
     at: usize,
     kind: Kind,
@@ -19,7 +21,7 @@ struct Side {
 }
 
 // The same of a line of each report.
-#[derive(Drop)]
+#[derive(Clone, Copy)]
 pub struct Both {
     pub at: usize,
     pub a: Kind,

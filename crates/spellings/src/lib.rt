@@ -1,4 +1,6 @@
 // The shipped spellings and the names of the commands as rows of bytes: for each its word's length, its command and its word.
+#![tactic(auto)]
+
 ghost use Rattle.std.specs.Prelude.{◌≡◌, ◌∷◌, ◌<◌, length};
 ghost use Rattle.scan.specs.Scan.{part_of};
 ghost use Rattle.words.specs.Words.{shipped, names as names_of, same, lookup_in};
@@ -15,7 +17,7 @@ const NAMES: [u8; 229] =
     *b"\x01\x00!\x01\x01&\x04\x02read\x05\x03print\x0a\x04substitute\x05\x05close\x04\x06only\x04\x07quit\x07\x08quitall\x06\x09resize\x05\x0asplit\x06\x0bvsplit\x04\x0cview\x03\x0dtab\x08\x0etabclose\x07\x0ftabedit\x07\x10tabmove\x07\x11tabnext\x07\x12tabonly\x0b\x13tabprevious\x08\x14tabfirst\x07\x15tablast\x05\x16write\x04\x17wall\x0a\x18horizontal\x08\x19vertical\x09\x1aaboveleft\x0a\x1bbelowright";
 
 // A row: its command, and where its word starts and ends.
-#[derive(Drop)]
+#[derive(Clone, Copy)]
 pub struct RowRead {
     pub command: u64,
     pub start: usize,

@@ -9,7 +9,7 @@ use limits::refusal::{Numbered, Refusal, refusal_of};
 use scan::classes::classes;
 
 // The fields of a line: the word from `word` up to `end`, the command from `command` up to `stop`, and what is one too many from `more` on.
-#[derive(Drop)]
+#[derive(Clone, Copy)]
 struct Fields {
     word: usize,
     end: usize,

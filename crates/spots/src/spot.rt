@@ -3,7 +3,7 @@ ghost use Rattle.std.specs.Prelude.{◌≡◌, ◌<◌, ◌≤◌, length};
 ghost use Rattle.spots.specs.Spot.{Placed, from_to, unfound};
 
 // The place's first byte, and the byte past its last; both are 0 where no place can be told.
-#[derive(Drop)]
+#[derive(Clone, Copy)]
 pub struct Spot {
     pub found: bool,
     pub start: usize,

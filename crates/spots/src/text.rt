@@ -12,7 +12,7 @@ use scan::run::run_end;
 use scanner::token::lead_of;
 
 // Where a text stands in its line.
-#[derive(Drop)]
+#[derive(Clone, Copy)]
 pub struct Text {
     pub from: usize,
     pub to: usize,

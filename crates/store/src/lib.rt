@@ -1,5 +1,7 @@
 // Numbers, names and bytes written into a lent store: each function writes from a place on, answers the place after, and changes
 // no other byte.
+#![tactic(auto)]
+
 ghost use Rattle.store.specs.Sevens.{encode, named};
 ghost use Rattle.store.specs.Splice.{Put, Room};
 

@@ -4,7 +4,7 @@ use Rattle.std.specs.Prelude.{◌≡◌, ℕ, zero, suc, ◌+◌, ◌-◌, ◌*�
 use Rattle.std.proofs.Math.Path.{refl}
 use Rattle.std.proofs.Common.{sym, ◌∙◌, ap, arith, get_or-take, get_or-drop, ltb-true, ltb-false, eqb-true, leb-true, leb-false, le-leb}
 use Rattle.std.proofs.lemmas.Bool.{false≢true, eqb-false, lt-leb}
-use Rattle.std.proofs.Math.Bool.{and_false, or_assoc}
+use Rattle.std.proofs.Math.Bool.{and-false, or_assoc}
 use Rattle.limits.specs.Limits.{last_command}
 use Rattle.scan.specs.Bytes.{within, is_letter, is_word}
 use Rattle.scan.specs.Scan.{byte_at, part_of}
@@ -58,7 +58,7 @@ letter_is b r e h = go (nat_le b 0x5A) refl
         let n = leb-false b 0x5A t in
         let lo = le-leb 0x61 b (omega (arith, e, n)) in
         let hi = le-leb b 0x7A (omega (arith, e, n)) in
-        rw (and_false (nat_le 0x41 b), lo, hi)
+        rw (and-false (nat_le 0x41 b), lo, hi)
 
 -- a letter is one of a word's
 pub letter_word : (b : ℕ) → passes Asked.Letter b ≡ true → passes Asked.Word b ≡ true

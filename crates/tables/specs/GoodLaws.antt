@@ -3,7 +3,7 @@
 use Rattle.std.specs.Prelude.{◌≡◌, ℕ, zero, suc, ◌+◌, ◌-◌, ◌<◌, ◌≤◌, Bool, true, false, cond, ◌&&◌, leb, List, [], ◌∷◌, ◌++◌, length, take, drop, ◌==◌, nat_eq, nat_le, refl}
 use Rattle.std.proofs.Common.{sym, ◌∙◌, length-take-le, take-add, le-leb, eq-eqb, ne_eqb}
 use Rattle.std.proofs.Math.Path.{ap}
-use Rattle.std.proofs.Math.Bool.{and_assoc, and-true, and_false}
+use Rattle.std.proofs.Math.Bool.{and_assoc, and-true, and-false}
 use native.Mathlib.Omega.{arith}
 use Rattle.std.proofs.Math.ListN.{length-drop}
 use Rattle.limits.specs.Limits.{word_limit, last_command}
@@ -138,7 +138,7 @@ module _ (at most : ℕ) (b : List ℕ) (is : framed at most b ≡ true) (words 
 
       -- where the commands begin at k
       pub test_commands : (k : ℕ) → k ≡ commands_at at → all_of (passes Asked.Command) (part_of b k (k + byte_at b at)) ≡ false → (table at most).test b ≡ false
-      test_commands k p h = test_is ∙ ap (λ t. ordered at most b && all_words at most b && t) (commands_at_lem k p ∙ h) ∙ and_false (ordered at most b && all_words at most b)
+      test_commands k p h = test_is ∙ ap (λ t. ordered at most b && all_words at most b && t) (commands_at_lem k p ∙ h) ∙ and-false (ordered at most b && all_words at most b)
 
       -- and the words at w
       pub test_words : (k w : ℕ) → k ≡ commands_at at → w ≡ words_at at most → all_of (passes Asked.Command) (part_of b k (k + byte_at b at)) ≡ true →

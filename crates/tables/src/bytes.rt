@@ -9,7 +9,7 @@ use limits::LAST_COMMAND;
 use scan::byte::within;
 
 // What each byte is to be: a command's number, a letter, or a word's byte.
-#[derive(Drop)]
+#[derive(Clone, Copy)]
 pub enum Asked {
     Command,
     Letter,

@@ -16,7 +16,7 @@ use scan::number::low_eight;
 use words::words::Named;
 
 // Where a word stands: nowhere, or in the row of this number, its bytes from a place on.
-#[derive(Drop)]
+#[derive(Clone, Copy)]
 pub enum Seat {
     Nowhere,
     Row(usize, usize),

@@ -9,7 +9,7 @@ ghost use Rattle.tables.specs.declared.frame.Start.{Start};
 use limits::WORD;
 
 // Where the words of one length begin: so many rows come before them, and the first stands at `place`.
-#[derive(Drop)]
+#[derive(Clone, Copy)]
 pub struct Start {
     pub rows: usize,
     pub place: usize,

@@ -1,4 +1,6 @@
 // Tables by length: words with their commands in lent bytes. docs/SESSION-BYTES.md shows the layout, specs/Table.antt defines it.
+#![tactic(auto)]
+
 mod bytes;
 pub mod find;
 pub mod frame;

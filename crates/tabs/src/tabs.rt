@@ -13,7 +13,7 @@ use ranges::range::{
 use reading::line::{CommandDescription, argument};
 
 // The range of a command that takes it before its word or as its argument.
-#[derive(Drop)]
+#[derive(Clone, Copy)]
 pub enum TabRange {
     Absent,
     InLine(RangeSpec),

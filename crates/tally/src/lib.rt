@@ -1,4 +1,6 @@
 // How many lines there were, and what they came to: a count for each outcome of a line, lent and added to.
+#![tactic(auto)]
+
 ghost use Rattle.std.specs.Prelude.{◌≡◌, ◌+◌, ◌<◌, length};
 ghost use Rattle.limits.specs.Refusals.{refusals};
 ghost use Rattle.texts.specs.Behind.{Behind};

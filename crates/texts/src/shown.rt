@@ -9,7 +9,7 @@ use scan::part::byte_at;
 use utf8::utf8::is_utf8;
 
 // One character, or a byte that is part of none, as it is shown: where the text goes on, the place behind what is written, and its columns.
-#[derive(Drop)]
+#[derive(Clone, Copy)]
 struct Piece {
     next: usize,
     at: usize,
@@ -137,7 +137,7 @@ fn piece_at(s: &[u8], i: usize) -> Piece
 }
 
 // A line under a text: how far it is written, and where its marks begin.
-#[derive(Drop)]
+#[derive(Clone, Copy)]
 struct Under {
     at: usize,
     marks: usize,

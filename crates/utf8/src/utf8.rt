@@ -53,7 +53,7 @@ fn highest(b: u8) -> u8
 }
 
 // A sequence of one character at a position: where the next one starts, or that it is none.
-#[derive(Drop)]
+#[derive(Clone, Copy)]
 pub enum SequenceRead {
     Next(usize),
     Bad,
@@ -134,7 +134,7 @@ fn sequences(s: &[u8], at: usize, stop: usize) -> SequenceRead
 // Whether a text is UTF-8: `first` bytes by sequences, then by blocks, and behind a block that is not told as many bytes by sequences again.
 fn by_blocks(s: &[u8], first: usize) -> bool
     requires { 0 < first }
-    ensures { result ≡ utf8s.isUtf8 s.now }
+    ensures { result ≡ utf8s.is_utf8 s.now }
 {
     let mut i: usize = 0;
     let mut n = first;
@@ -151,7 +151,7 @@ fn by_blocks(s: &[u8], first: usize) -> bool
 // The bytes are UTF-8 by RFC 3629. Two bytes must stand before a block, so a short text has none. What is not ASCII is read by a function of
 // its own, called at two places and lent the text anew: put in here, or lent the text as it came, it made ASCII slower.
 pub fn is_utf8(s: &[u8]) -> bool
-    ensures { result ≡ utf8s.isUtf8 s.now }
+    ensures { result ≡ utf8s.is_utf8 s.now }
 {
     if !any_high_before(s, s.len()) {
         return true;

@@ -1,10 +1,12 @@
 // The oracle's vectors: reading one, building an answer, counting those that agree.
 // A vector: op, the text's length (two bytes, low first), the text, the answer's length (two bytes, low first), the answer.
+#![tactic(auto)]
+
 use libc::STDOUT_FILENO;
 use limits::refusal::{Refusal, number};
 
 // A vector that was read: its op and the lengths of its text and its answer; or the end; or an input that stops within a vector.
-#[derive(Drop)]
+#[derive(Clone, Copy)]
 pub enum Frame {
     Vector(u8, usize, usize),
     End,
@@ -12,7 +14,7 @@ pub enum Frame {
 }
 
 // How far a run is.
-#[derive(Drop)]
+#[derive(Clone, Copy)]
 pub struct Tally {
     pub agree: u64,
     pub total: u64,

@@ -9,14 +9,14 @@ use texts::put::put_text;
 const HEAD: usize = 64;
 
 // What stands above.
-#[derive(Drop)]
+#[derive(Clone, Copy)]
 pub struct Above {
     pub sheet: bool,
     pub kind: Kind,
 }
 
 // How far a report was read: up to where, how many bytes of a line are held, whether reads succeed, and what stands above.
-#[derive(Drop)]
+#[derive(Clone, Copy)]
 pub struct Reading {
     pub at: u64,
     pub held: usize,

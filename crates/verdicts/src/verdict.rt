@@ -4,7 +4,7 @@ use reports::kind::Kind;
 use texts::put::{put_decimal, put_text};
 
 // The sentences.
-#[derive(Drop)]
+#[derive(Clone, Copy)]
 pub enum Verdict {
     Programs,
     Versions,

@@ -8,7 +8,7 @@ use lists::list::{Item, ListRead, Picked, parse_list};
 
 // The item of a list that has none or one. The refusal stands first: with it last the loop over many items is compiled to the same
 // instructions on other registers, and takes a tenth longer.
-#[derive(Drop)]
+#[derive(Clone, Copy)]
 pub enum OnlyItem {
     Refused(Refusal),
     Absent,

@@ -15,14 +15,14 @@ use ranges::range::RangeRead;
 use reading::line::{CommandDescription, argument};
 
 // What is opened, or a refusal.
-#[derive(Drop)]
+#[derive(Clone, Copy)]
 pub enum Opened {
     Target(OpenTarget),
     Refused(Refusal),
 }
 
 // The size that a range asks for, or a refusal.
-#[derive(Drop)]
+#[derive(Clone, Copy)]
 pub enum WindowSize {
     Is(Size),
     Refused(Refusal),

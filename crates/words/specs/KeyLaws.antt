@@ -1,7 +1,7 @@
 -- Laws of lookup by numbers: it finds what lookup by bytes finds.
 -- Assumes nothing.
 use Rattle.std.specs.Prelude.{◌≡◌, refl, Bool, true, false, ◌&&◌, List, [], ◌∷◌, ◌++◌, ℕ, zero, suc, ◌+◌, ◌*◌, ◌^◌, ◌<◌, ◌≤◌, eqb, ltb, leb, length, get_or, take, drop}
-use Rattle.std.proofs.Common.{◌∙◌, sym, ap, pow-suc, add-mul, mul_assoc, mul_comm, zero_add, arith, drop_of_length-le, length-drop, take_all, take-add, drop-drop, length-take-le, eqb-true, eq-eqb, ne_eqb, ltb-true, leb-true}
+use Rattle.std.proofs.Common.{◌∙◌, sym, ap, pow-suc, add-mul, mul_assoc, mul_comm, zero-add, arith, drop_of_length-le, length-drop, take_all, take-add, drop-drop, length-take-le, eqb-true, eq-eqb, ne_eqb, ltb-true, leb-true}
 use Rattle.std.proofs.Math.Decide.{dec_lt}
 use Rattle.std.proofs.lemmas.Bool.{eqb-false}
 use Rattle.scan.specs.RunLaws.{and_left, and_right, drop_step}
@@ -199,7 +199,7 @@ pack_behind k (y ∷ ys) =
     let d : (k * 256 + y) * p ≡ k * 256 * p + y * p = add-mul (k * 256) y p in
     let f : k * 256 * p ≡ k * (256 * p) = mul_assoc k 256 p in
     let g : 256 * p ≡ p * 256 = mul_comm 256 p in
-    let i : pack_from (0 * 256 + y) ys ≡ y * p + pack_from 0 ys = ap (λ (m : ℕ). pack_from m ys) (zero_add y) ∙ pack_behind y ys in
+    let i : pack_from (0 * 256 + y) ys ≡ y * p + pack_from 0 ys = ap (λ (m : ℕ). pack_from m ys) (zero-add y) ∙ pack_behind y ys in
     pack_behind (k * 256 + y) ys ∙ omega (arith, d, i, ap (λ (m : ℕ). k * m) (g ∙ sym e), f)
 
 -- bytes in a row are packed

@@ -9,7 +9,7 @@ ghost use Rattle.words.specs.Keys.{keyed};
 use scan::number::eight;
 
 // What a word leads to.
-#[derive(Drop)]
+#[derive(Clone, Copy)]
 pub enum Named {
     Command(u64),
     Unknown,

@@ -1,0 +1,18 @@
+-- `run::probe` meets its contract. The invariant: the run from i on ends where the run from the start does.
+-- Assumes nothing.
+use mathlib.Core.Path.{◌≡◌, ◌∙◌, sym}
+use Prim.Native.Nat.{◌-◌, ◌≤◌}
+use native.Mathlib.Omega.{arith}
+use lib.ListN.{length}
+use borrow.Author.Tests.{not-true, not-false}
+use Rattle.scan.specs.Bytes.{is_kind}
+use Rattle.scan.specs.Scan.{run_at}
+use Rattle.scan.specs.RunLaws.{run_at_on, run_at_off, run_at_end}
+use borrow.Author.Rules.{rules}
+use Rattle.blocks.proofs.run.probe.Given as goal
+
+abbrev pub invariant-loop-i : goal.invariant-loop-i
+invariant-loop-i l = (l.left ≤ 16) × (run_at (is_kind l.k) l.s l.at ≡ run_at (is_kind l.k) l.s l.i)
+
+abbrev pub decreases-loop-i : goal.decreases-loop-i
+decreases-loop-i l = length l.s - l.i

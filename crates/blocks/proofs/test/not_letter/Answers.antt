@@ -1,0 +1,7 @@
+-- `test::not_letter` meets its contract.
+-- Assumes nothing.
+use borrow.Author.Rules.{rules}
+use Rattle.blocks.proofs.test.not_letter.Goals as goal
+
+pub returns : goal.returns
+returns c = rw (c.either.ensures, c.within.ensures, c.within-2.ensures)

@@ -1,0 +1,15 @@
+-- `range::parse_range_mark` meets its contract.
+-- Assumes nothing.
+use mathlib.Core.Path.{sym, ◌∙◌}
+use Rattle.scan.specs.Bytes.{is_kind}
+use Rattle.ranges.specs.Range.{mark_atom}
+use borrow.Author.Rules.{rules}
+use Rattle.ranges.proofs.range.parse_range_mark.Goals as goal
+
+pub returns-then-is_kind : goal.returns-then-is_kind
+unfolding mark_atom is_kind
+returns-then-is_kind c = simp (sym c.is_kind.ensures ∙ c.if-is_kind.taken)
+
+pub returns-else-is_kind : goal.returns-else-is_kind
+unfolding mark_atom is_kind
+returns-else-is_kind c = simp (sym c.is_kind.ensures ∙ c.if-is_kind.left)

@@ -1,0 +1,52 @@
+-- `range::parse_range_modifiers` meets its contract. The invariant: b stands at i, and the offsets from i on end where those from the start do.
+-- Assumes nothing.
+use mathlib.Core.Path.{◌≡◌, ◌∙◌, sym, ap}
+use mathlib.Core.Bool.{true}
+use Prim.Native.Nat.{◌-◌, ◌+◌}
+use native.Mathlib.Omega.{arith}
+use lib.ListN.{length, get_or}
+use borrow.Author.Tests.{not-true, not-false}
+use Rattle.ranges.specs.Range.{is_sign, offsets_at}
+use Rattle.ranges.specs.OffsetLaws.{Passed, sign_inside, offset_large}
+use Rattle.ranges.proofs.RangeLaws.{offsets_at_none, offsets_at_large, offsets_at_next}
+use borrow.Author.Rules.{rules}
+use Rattle.ranges.proofs.range.parse_range_modifiers.Goals as goal
+
+passed : (c : tie.After-known-told invariant-loop decreases-loop) →
+    let at-if1 = c.before.before.before.before in
+    let at-loop = at-if1.before.before in
+    let s = at-loop.before.before.before.before.args.s.now in
+    let i = at-loop.loop.i in
+    let o = c.before.j.given.0 in
+    Passed s i o.0 o.1.0 o.1.1.0 (offsets_at s i) (λ m k. offsets_at s k)
+passed c =
+    offsets_at_next _ _ _ _ _ (signed c.before.before.before.before) (sym c.before.before.before.offset_at.ensures ∙ c.before.j.given.1)
+
+pub loop-at-init : goal.loop-at-init
+loop-at-init c = (c.byte_at-b.ensures, c.past_pairs-i.ensures)
+
+pub returns-then-not-is_sign : goal.returns-then-not-is_sign
+returns-then-not-is_sign c = let l = c.loop-at in
+    sym (l.invariant.1 ∙ offsets_at_none _ _ (sym (ap is_sign l.invariant.0) ∙ sym c.is_sign.ensures ∙ c.if-not-is_sign.true))
+
+-- a sign stands at i
+
+pub overflow_add-i : goal.overflow_add-i
+overflow_add-i c = let signed : is_sign (get_or c.args.s.now c.loop-at.i 0) ≡ true = sym (ap is_sign c.loop-at.invariant.0) ∙ sym c.is_sign.ensures ∙ c.if-not-is_sign.false in
+    omega (arith, sign_inside c.args.s.now c.loop-at.i signed)
+
+pub returns-in_default : goal.returns-in_default
+returns-in_default c = let signed : is_sign (get_or c.args.s.now c.loop-at.i 0) ≡ true = sym (ap is_sign c.loop-at.invariant.0) ∙ sym c.is_sign.ensures ∙ c.if-not-is_sign.false in
+    let s = c.args.s.now in
+    let l = c.loop-at in
+    let t = signed in
+    sym (l.invariant.1 ∙ offsets_at_large s l.i
+    (sign_inside s l.i t) t (offset_large s (l.i + 1) (sym c.offset_at.ensures ∙ c.in_default.is)))
+
+-- the offset at i is passed
+
+pub loop-at-smaller : goal.loop-at-smaller
+loop-at-smaller c = omega (arith, (passed c).later, (passed c).within)
+
+pub loop-at-preserved : goal.loop-at-preserved
+loop-at-preserved c = ((passed c).byte, c.loop-at.invariant.1 ∙ (passed c).goes)
