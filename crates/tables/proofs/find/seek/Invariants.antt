@@ -1,0 +1,12 @@
+-- `find::seek` meets its contract. The invariant: the word is not among the first j, and the next of them ends at e.
+-- Assumes nothing.
+use Rattle.std.proofs.Common.{◌≡◌, ◌+◌, ◌-◌, ◌*◌, ◌≤◌, length, drop}
+use Rattle.tables.specs.Walk.{seek as seek_of}
+use Rattle.tables.proofs.find.seek.Given as goal
+
+abbrev pub invariant-loop-j : goal.invariant-loop-j
+invariant-loop-j l =
+    (l.j ≤ l.c) × ((l.q + length l.w ≤ l.e) × ((l.e + (l.c - l.j) * length l.w ≡ l.q + length l.w + l.c * length l.w) × (l.j + seek_of (l.c - l.j) l.w (drop (l.e - length l.w) l.b) ≡ seek_of l.c l.w (drop l.q l.b))))
+
+abbrev pub decreases-loop-j : goal.decreases-loop-j
+decreases-loop-j l = l.c - l.j

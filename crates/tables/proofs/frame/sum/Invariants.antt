@@ -1,0 +1,13 @@
+-- `frame::sum` meets its contract. The invariant: n is the sum of the counts below m.
+-- Assumes nothing.
+use Rattle.std.proofs.Common.{◌≡◌, ◌+◌, ◌-◌, ◌*◌, ◌≤◌}
+use Rattle.limits.specs.Limits.{word_limit}
+use Rattle.scan.specs.Scan.{part_of}
+use Rattle.tables.specs.Table.{sum as sum_of}
+use Rattle.tables.proofs.frame.sum.Given as goal
+
+abbrev pub invariant-loop-m : goal.invariant-loop-m
+invariant-loop-m l = (1 ≤ l.m) × (l.m ≤ 1 + word_limit) × (l.n ≤ 255 * (l.m - 1)) × (l.n ≡ sum_of (part_of l.b (l.at + 1) (l.at + l.m)))
+
+abbrev pub decreases-loop-m : goal.decreases-loop-m
+decreases-loop-m l = 1 + word_limit - l.m

@@ -1,0 +1,15 @@
+-- `number::tail` meets its contract: no bit is lost.
+-- Assumes nothing.
+use Rattle.std.proofs.Common.{◌≡◌, ℕ, ◌+◌, ◌-◌, ◌*◌, ◌/◌, ◌^◌, ap, ◌∙◌, mod-eq_of_lt, div-mul-le_self, arith}
+use Rattle.scan.specs.Number.{number_of}
+use Rattle.scan.specs.Scan.{part_of}
+use Rattle.tables.specs.Tail.{tail_of}
+use Rattle.tables.proofs.number.tail.Goals as goal
+
+pub returns : goal.returns
+unfolding tail_of
+returns c = let a = c.args in
+    let x = c.low_eight.result in
+    let q : a.e - 8 + 8 ≡ a.e = omega arith in
+    mod-eq_of_lt (omega (arith, div-mul-le_self x (2 ^ a.h)))
+    ∙ ap (λ (n : ℕ). n / 2 ^ a.h * 2 ^ a.h) (c.low_eight.ensures ∙ ap (λ (n : ℕ). number_of (part_of a.b.now (a.e - 8) n)) q)

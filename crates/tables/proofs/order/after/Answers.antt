@@ -1,0 +1,15 @@
+-- `order::after` meets its contract.
+-- Assumes nothing.
+use Rattle.std.proofs.Common.{sym, arith}
+use Rattle.tables.specs.OrderLaws.{tails_less, tails_more}
+use Rattle.tables.proofs.order.after.Goals as goal
+
+pub returns-then-x-y : goal.returns-then-x-y
+returns-then-x-y c = let a = c.args in
+    sym (tails_less a.b.now a.e a.m (λ i. omega (arith, c.type_inv.b i)) (omega arith) (omega arith) (omega arith)
+    (omega (arith, c.requires.x_value, c.requires.y_value)))
+
+pub returns-then-y-x : goal.returns-then-y-x
+returns-then-y-x c = let a = c.args in
+    sym (tails_more a.b.now a.e a.m (λ i. omega (arith, c.type_inv.b i)) (omega arith) (omega arith) (omega arith)
+    (omega (arith, c.requires.x_value, c.requires.y_value)))

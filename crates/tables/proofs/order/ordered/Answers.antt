@@ -1,0 +1,66 @@
+-- `order::ordered` meets its contract. The invariant: the words up to q ascend, are shorter than m, and so many are left.
+-- Assumes nothing.
+use Rattle.std.proofs.Common.{◌+◌, sym, ◌∙◌, arith}
+use Rattle.tables.specs.FrameLaws.{framed_told}
+use Rattle.tables.specs.OrderLaws.{ordered_start, ordered_end, ordered_short, ordered_few, ordered_fits, ordered_not, ordered_next}
+use Rattle.tables.proofs.order.ordered.Goals as goal
+
+pub overflow_add-q : goal.overflow_add-q
+overflow_add-q c = omega (arith, (framed_told _ _ _ c.requires.b_value).size)
+
+pub overflow_add-q-2 : goal.overflow_add-q-2
+overflow_add-q-2 c = omega (arith, (framed_told _ _ _ c.requires.b_value).size)
+
+pub overflow_add-q-3 : goal.overflow_add-q-3
+overflow_add-q-3 c = omega (arith, (framed_told _ _ _ c.requires.b_value).size)
+
+pub bounds-b-at : goal.bounds-b-at
+bounds-b-at c = omega (arith, (framed_told _ _ _ c.requires.b_value).size)
+
+pub overflow_cast-left : goal.overflow_cast-left
+overflow_cast-left c = omega (arith, c.type_inv.b c.args.at)
+
+pub loop-left-init : goal.loop-left-init
+loop-left-init c = let a = c.args in
+    ordered_start a.b.now a.at a.most _ (framed_told _ _ _ c.requires.b_value) c.requires.at_nonzero (omega arith)
+
+pub overflow_add-c : goal.overflow_add-c
+overflow_add-c c = let o = c.loop-left.invariant in
+    omega (arith, o.frame.size, ordered_short o (omega arith))
+
+pub bounds-b-at-in-loop-left : goal.bounds-b-at-in-loop-left
+bounds-b-at-in-loop-left c = let o = c.loop-left.invariant in
+    omega (arith, o.frame.size, ordered_short o (omega arith))
+
+pub overflow_cast-c : goal.overflow_cast-c
+overflow_cast-c c = let a = c.args in
+    omega (arith, c.type_inv.b (a.at + c.loop-left.m))
+
+pub rises-requires : goal.rises-requires
+rises-requires c = let a = c.args in
+    let l = c.loop-left in
+    let o = l.invariant in record { le_q = omega (arith, o.room); le_m = o.some; m_le_word_limit = ordered_short o (omega arith); c_bound = omega (arith, c.type_inv.b (a.at + l.m)); m_in_bounds = ordered_fits o (omega arith) }
+
+pub returns-then-not-rises : goal.returns-then-not-rises
+returns-then-not-rises c = ordered_not c.loop-left.invariant (omega arith) (sym c.rises.ensures ∙ c.if-not-rises.true)
+
+pub overflow_mul-q : goal.overflow_mul-q
+overflow_mul-q c = omega (arith, ordered_fits c.loop-left.invariant (omega arith))
+
+pub overflow_add-q-in-loop-left : goal.overflow_add-q-in-loop-left
+overflow_add-q-in-loop-left c = omega (arith, ordered_fits c.loop-left.invariant (omega arith))
+
+pub overflow_sub-left : goal.overflow_sub-left
+overflow_sub-left c = omega (arith, ordered_few c.loop-left.invariant (omega arith))
+
+pub overflow_add-m : goal.overflow_add-m
+overflow_add-m c = omega (arith, ordered_short c.loop-left.invariant (omega arith))
+
+pub loop-left-smaller : goal.loop-left-smaller
+loop-left-smaller c = omega (arith, ordered_short c.loop-left.invariant (omega arith))
+
+pub loop-left-preserved : goal.loop-left-preserved
+loop-left-preserved c = ordered_next c.loop-left.invariant (omega arith) (sym c.rises.ensures ∙ c.if-not-rises.false)
+
+pub returns : goal.returns
+returns c = ordered_end c.loop-left.invariant (omega arith)
