@@ -176,7 +176,7 @@ module _ (table : List Row) where
       record {
         some_text = s;
         its = d;
-        leads = record { its_change = g.its-change; again = e₂ ∙ g.again; changes = λ x. g.changes x ∙ rw (h.reads, r) };
+        leads = record { its_change = g.its_change; again = e₂ ∙ g.again; changes = λ x. g.changes x ∙ rw (h.reads, r) };
       }
 
   -- one prefix, then any text: one reading more, in the context that the prefix sets
@@ -184,10 +184,10 @@ module _ (table : List Row) where
   unfolding line_from step
   one_prefix x p t h =
       let g = h.leads in
-      ap (run_on table x) (trim_append p t h.some-text)
+      ap (run_on table x) (trim_append p t h.some_text)
       ∙ run_is table x (trim p ++ 32 ∷ t)
       ∙ ap (step table (run_on table) x (trim p ++ 32 ∷ t)) g.again
-      ∙ ap (λ s. one_more (run_on table (change g.its-change x) s)) (part_behind (trim p) t)
+      ∙ ap (λ s. one_more (run_on table (change g.its_change x) s)) (part_behind (trim p) t)
       ∙ ap (λ y. one_more (run_on table y (trim t))) (g.changes x)
 
   -- the list ----------------------------------------------------------------------------------------------------------------------------
