@@ -1,6 +1,6 @@
 -- Laws of CRC-32 by a table. It is linear: the number of an exclusive or is the exclusive or of the numbers. So a byte is an entry of the
 -- table and a shift, bytes are one number, passed at once, and a number is passed byte by byte of it. Assumes nothing.
-use Rattle.std.specs.Prelude.{◌≡◌, refl, cond, List, [], ◌∷◌, ◌++◌, ℕ, zero, suc, ◌+◌, ◌-◌, ◌*◌, ◌^◌, ◌/◌, ◌%◌, ◌<◌, ◌≤◌, eqb, length, get_or, take, drop, set}
+use Rattle.std.specs.Prelude.{◌≡◌, refl, cond, List, [], ◌∷◌, ◌++◌, ℕ, zero, suc, ◌+◌, ◌-◌, ◌*◌, ◌^◌, ◌/◌, ◌%◌, ◌<◌, ◌≤◌, eqb, length, get_or, drop, set}
 use Rattle.std.proofs.Common.{sym, ap, ap₂, ◌∙◌, add-one, arith, take-append-drop, drop-drop, get_or-drop, get_or-take, get_or-set_same, get_or-set_other, below_more}
 use Rattle.std.specs.Int.Bits.{bit_xor, differ}
 use Rattle.std.proofs.lemmas.Nat.{xor_comm, xor_lt}

@@ -1,12 +1,11 @@
 -- `store::put_bytes` meets its contract. The invariant: what is left of src, written from here on, gives the store asked for.
 -- Assumes nothing.
-use mathlib.Core.Path.{◌≡◌}
-use Prim.Native.Nat.{◌+◌, ◌-◌, ◌≤◌}
+use Prim.Native.Nat.{◌+◌}
 use native.Mathlib.Omega.{arith}
 use native.Mathlib.Numerals.{add-one}
-use lib.ListN.{length, drop, get_or, drop_of_length-le}
+use lib.ListN.{drop, get_or, drop_of_length-le}
 use lib.Seq.{drop-cons}
-use Rattle.store.specs.Splice.{Writing, writing_start, writing_byte, writing_end}
+use Rattle.store.specs.Splice.{writing_start, writing_byte, writing_end}
 use Rattle.store.proofs.put_bytes.Goals as goal
 
 pub loop-j-init : goal.loop-j-init

@@ -2,7 +2,6 @@
 -- Assumes nothing.
 use Rattle.store.specs.Sevens.{named}
 use Rattle.store.specs.Splice.{put_then, room_first, room_next}
-use borrow.Author.Rules.{rules}
 use Rattle.store.proofs.put_name.Goals as goal
 
 pub put_number-i-requires : goal.put_number-i-requires

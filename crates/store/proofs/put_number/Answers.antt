@@ -2,12 +2,9 @@
 -- Assumes nothing.
 use mathlib.Core.Path.{refl}
 use mathlib.Core.List.{[]}
-use Prim.Native.Nat.{◌<◌, ◌^◌}
 use native.Mathlib.Omega.{arith}
-use Rattle.store.specs.Sevens.{encode}
 use Rattle.store.specs.SevensLaws.{encode_small, encode_more, encode_some}
-use Rattle.store.specs.Splice.{Writing, writing_start, writing_byte, writing_end}
-use borrow.Author.Rules.{rules}
+use Rattle.store.specs.Splice.{writing_start, writing_byte, writing_end}
 use Rattle.store.proofs.put_number.Goals as goal
 
 pub loop-left-init : goal.loop-left-init

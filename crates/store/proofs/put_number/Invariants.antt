@@ -1,13 +1,8 @@
 -- `store::put_number` meets its contract. The invariant: the groups of what is left, written from here on, give the store asked for.
 -- Assumes nothing.
-use mathlib.Core.Path.{refl}
-use mathlib.Core.List.{[]}
 use Prim.Native.Nat.{◌<◌, ◌^◌}
-use native.Mathlib.Omega.{arith}
 use Rattle.store.specs.Sevens.{encode}
-use Rattle.store.specs.SevensLaws.{encode_small, encode_more, encode_some}
-use Rattle.store.specs.Splice.{Writing, writing_start, writing_byte, writing_end}
-use borrow.Author.Rules.{rules}
+use Rattle.store.specs.Splice.{Writing}
 use Rattle.store.proofs.put_number.Given as goal
 
 abbrev pub invariant-loop-left : goal.invariant-loop-left

@@ -4,7 +4,6 @@ use mathlib.Core.Path.{sym}
 use mathlib.Core.Bool.{false≢true}
 use Rattle.scan.specs.Bytes.{is_kind, is_space, is_letter, is_word, is_plain, is_quoted}
 use Rattle.blocks.specs.BlockLaws.{tested_through, tested_wider, letter_word}
-use borrow.Author.Rules.{rules}
 use Rattle.blocks.proofs.block.any_foreign.Goals as goal
 
 pub returns-in-Space : goal.returns-in-Space

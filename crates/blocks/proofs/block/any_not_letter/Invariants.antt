@@ -1,10 +1,8 @@
 -- `block::any_not_letter` meets its contract. The invariant: after i bytes m says whether the run from `at` on ends before the next.
 -- Assumes nothing.
 use Prim.Native.Nat.{◌-◌}
-use native.Mathlib.Omega.{arith}
 use Rattle.scan.specs.Bytes.{is_letter}
-use Rattle.blocks.specs.BlockLaws.{Tested, tested_start, tested_turn, tested_end}
-use borrow.Author.Rules.{rules}
+use Rattle.blocks.specs.BlockLaws.{Tested}
 use Rattle.blocks.proofs.block.any_not_letter.Given as goal
 
 abbrev pub invariant-loop-i : goal.invariant-loop-i

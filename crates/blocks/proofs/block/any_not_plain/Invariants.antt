@@ -1,12 +1,9 @@
 -- `block::any_not_plain` meets its contract. The invariant: after i bytes the two say whether the run from `at` on ends before the next.
 -- Assumes nothing.
-use mathlib.Core.Path.{◌∙◌}
 use mathlib.Core.Bool.{◌||◌}
 use Prim.Native.Nat.{◌-◌}
-use native.Mathlib.Omega.{arith}
 use Rattle.scan.specs.Bytes.{is_plain}
-use Rattle.blocks.specs.BlockLaws.{Tested, tested_start, tested_turn, tested_end, plain_by, or_swap}
-use borrow.Author.Rules.{rules}
+use Rattle.blocks.specs.BlockLaws.{Tested}
 use Rattle.blocks.proofs.block.any_not_plain.Given as goal
 
 abbrev pub invariant-loop-i : goal.invariant-loop-i

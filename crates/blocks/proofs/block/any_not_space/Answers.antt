@@ -1,9 +1,7 @@
 -- `block::any_not_space` meets its contract. The invariant: after i bytes m says whether the run from `at` on ends before the next.
 -- Assumes nothing.
-use Prim.Native.Nat.{◌-◌}
-use native.Mathlib.Omega.{arith}
 use Rattle.scan.specs.Bytes.{is_space}
-use Rattle.blocks.specs.BlockLaws.{Tested, tested_start, tested_turn, tested_end}
+use Rattle.blocks.specs.BlockLaws.{tested_start, tested_turn, tested_end}
 use borrow.Author.Rules.{rules}
 use Rattle.blocks.proofs.block.any_not_space.Goals as goal
 

@@ -1,13 +1,10 @@
 -- `block::blocks_end` meets its contract. The invariant is the contract, at i.
 -- Assumes nothing.
-use borrow.Author.Tests.{leb-true}
-use mathlib.Core.Path.{◌≡◌, ◌∙◌, refl}
+use mathlib.Core.Path.{◌≡◌}
 use Prim.Native.Nat.{◌-◌}
-use native.Mathlib.Omega.{arith}
 use lib.ListN.{length}
 use Rattle.scan.specs.Scan.{run_at}
 use Rattle.scan.specs.Bytes.{is_kind}
-use borrow.Author.Rules.{rules}
 use Rattle.blocks.proofs.block.blocks_end.Given as goal
 
 abbrev pub invariant-loop-i : goal.invariant-loop-i

@@ -3,7 +3,6 @@
 use mathlib.Core.Path.{◌≡◌, ◌∙◌, sym}
 use mathlib.Core.Bool.{true}
 use lib.ListN.{get_or}
-use borrow.Author.Tests.{not-true, not-false}
 use Rattle.scan.specs.Bytes.{is_kind}
 use Rattle.scan.specs.RunLaws.{run_at_on, run_at_off, run_at_end}
 use borrow.Author.Rules.{rules}

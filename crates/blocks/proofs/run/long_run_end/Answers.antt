@@ -1,7 +1,6 @@
 -- `run::long_run_end` meets its contract.
 -- Assumes nothing.
 use Rattle.scan.specs.Bytes.{is_kind}
-use borrow.Author.Rules.{rules}
 use Rattle.blocks.proofs.run.long_run_end.Goals as goal
 
 pub returns-in-Space : goal.returns-in-Space

@@ -1,12 +1,7 @@
 -- `run::probe` meets its contract. The invariant: the run from i on ends where the run from the start does.
 -- Assumes nothing.
-use mathlib.Core.Path.{◌≡◌, ◌∙◌, sym}
-use Prim.Native.Nat.{◌-◌, ◌≤◌}
+use mathlib.Core.Path.{◌∙◌, sym}
 use native.Mathlib.Omega.{arith}
-use lib.ListN.{length}
-use borrow.Author.Tests.{not-true, not-false}
-use Rattle.scan.specs.Bytes.{is_kind}
-use Rattle.scan.specs.Scan.{run_at}
 use Rattle.scan.specs.RunLaws.{run_at_on, run_at_off, run_at_end}
 use borrow.Author.Rules.{rules}
 use Rattle.blocks.proofs.run.probe.Goals as goal

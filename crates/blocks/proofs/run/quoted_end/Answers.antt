@@ -2,7 +2,6 @@
 -- Assumes nothing.
 use Rattle.scan.specs.Bytes.{is_kind, is_quoted}
 use Rattle.blocks.specs.BlockLaws.{probed_ends, probed_on}
-use borrow.Author.Rules.{rules}
 use Rattle.blocks.proofs.run.quoted_end.Goals as goal
 
 pub returns-in-Ends : goal.returns-in-Ends

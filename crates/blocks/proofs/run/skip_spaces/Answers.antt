@@ -4,11 +4,9 @@ use mathlib.Core.Path.{◌≡◌, refl, ◌∙◌, sym, ap}
 use mathlib.Core.Bool.{true, false}
 use native.Mathlib.Omega.{arith}
 use lib.ListN.{get_or}
-use borrow.Author.Tests.{not-true, not-false}
 use Rattle.scan.specs.Bytes.{is_kind, is_space}
 use Rattle.scan.specs.RunLaws.{run_at_none, run_at_on}
 use Rattle.blocks.specs.BlockLaws.{inside}
-use borrow.Author.Rules.{rules}
 use Rattle.blocks.proofs.run.skip_spaces.Goals as goal
 
 no-space : is_space 0 ≡ false

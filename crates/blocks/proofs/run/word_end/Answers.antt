@@ -1,7 +1,6 @@
 -- `run::word_end` meets its contract.
 -- Assumes nothing.
 use Rattle.scan.specs.Bytes.{is_kind}
-use borrow.Author.Rules.{rules}
 use Rattle.blocks.proofs.run.word_end.Goals as goal
 
 pub returns-then-s-lt-LONG : goal.returns-then-s-lt-LONG

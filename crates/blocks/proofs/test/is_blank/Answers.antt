@@ -1,6 +1,5 @@
 -- `test::is_blank` meets its contract.
 -- Assumes nothing.
-use borrow.Author.Rules.{rules}
 use Rattle.blocks.proofs.test.is_blank.Goals as goal
 
 pub returns : goal.returns

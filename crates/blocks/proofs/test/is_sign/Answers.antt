@@ -1,6 +1,5 @@
 -- `test::is_sign` meets its contract.
 -- Assumes nothing.
-use borrow.Author.Rules.{rules}
 use Rattle.blocks.proofs.test.is_sign.Goals as goal
 
 pub returns : goal.returns

@@ -1,6 +1,5 @@
 -- `test::not_letter` meets its contract.
 -- Assumes nothing.
-use borrow.Author.Rules.{rules}
 use Rattle.blocks.proofs.test.not_letter.Goals as goal
 
 pub returns : goal.returns

@@ -3,7 +3,6 @@
 use mathlib.Core.Path.{sym}
 use mathlib.Core.Bool.{not-not}
 use Rattle.scan.specs.Bytes.{is_quoted}
-use borrow.Author.Rules.{rules}
 use Rattle.blocks.proofs.test.not_quoted.Goals as goal
 
 pub returns : goal.returns

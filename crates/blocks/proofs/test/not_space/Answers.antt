@@ -3,7 +3,6 @@
 use mathlib.Core.Path.{ap}
 use mathlib.Core.Bool.{not}
 use Rattle.scan.specs.Bytes.{is_space}
-use borrow.Author.Rules.{rules}
 use Rattle.blocks.proofs.test.not_space.Goals as goal
 
 pub returns : goal.returns

@@ -2,10 +2,8 @@
 -- Assumes nothing.
 use mathlib.Core.Path.{sym}
 use mathlib.Core.Bool.{not-not}
-use Prim.Native.Nat.{◌-◌}
-use native.Mathlib.Omega.{arith}
 use Rattle.scan.specs.Bytes.{is_text}
-use Rattle.blocks.specs.BlockLaws.{Tested, tested_start, tested_turn, tested_end, tested_through}
+use Rattle.blocks.specs.BlockLaws.{tested_start, tested_turn, tested_end, tested_through}
 use borrow.Author.Rules.{rules}
 use Rattle.blocks.proofs.text.any_feed.Goals as goal
 

@@ -6,7 +6,6 @@ use native.Mathlib.Omega.{arith}
 use Rattle.scan.specs.Scan.{run_at}
 use Rattle.scan.specs.Bytes.{is_text}
 use Rattle.blocks.specs.BlockLaws.{either_join}
-use borrow.Author.Rules.{rules}
 use Rattle.blocks.proofs.text.any_feed_before.Goals as goal
 
 pub returns-then-end-lt4 : goal.returns-then-end-lt4

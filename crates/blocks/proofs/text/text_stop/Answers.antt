@@ -4,7 +4,6 @@ use mathlib.Core.Path.{◌∙◌, sym}
 use native.Mathlib.Omega.{arith}
 use Rattle.scan.specs.Bytes.{is_kind}
 use Rattle.scan.specs.RunLaws.{run_at_end}
-use borrow.Author.Rules.{rules}
 use Rattle.blocks.proofs.text.text_stop.Goals as goal
 
 pub returns-then-s-eq0 : goal.returns-then-s-eq0

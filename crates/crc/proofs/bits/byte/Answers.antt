@@ -1,7 +1,6 @@
 -- `bits::byte` meets its contract.
 -- Assumes nothing.
 use Rattle.crc.specs.Crc.{crc_byte}
-use borrow.Author.Rules.{rules}
 use Rattle.crc.proofs.bits.byte.Goals as goal
 
 pub returns : goal.returns

@@ -1,11 +1,9 @@
 -- `bits::bytes_from` meets its contract.
 -- Assumes nothing.
-use Rattle.crc.specs.CrcLaws.{from_on, from_end}
 use Rattle.crc.specs.Crc.{crc_from}
 use lib.ListN.{length, drop}
 use Prim.Native.Nat.{◌-◌}
 use mathlib.Core.Path.{◌≡◌}
-use borrow.Author.Rules.{rules}
 use Rattle.crc.proofs.bits.bytes_from.Given as goal
 
 abbrev pub invariant-loop-i : goal.invariant-loop-i

@@ -1,11 +1,7 @@
 -- `table::by_sixteen` meets its contract.
 -- Assumes nothing.
-use Rattle.crc.specs.Crc.{crc_from}
 use Rattle.crc.specs.TableLaws.{from_sixteen}
 use lib.Bits.{xor_lt}
-use lib.ListN.{length, drop}
-use Prim.Native.Nat.{◌≤◌, ◌-◌}
-use mathlib.Core.Path.{◌≡◌}
 use borrow.Author.Rules.{rules}
 use Rattle.crc.proofs.table.by_sixteen.Goals as goal
 

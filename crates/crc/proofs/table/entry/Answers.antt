@@ -6,4 +6,4 @@ use borrow.Author.Rules.{rules}
 use Rattle.crc.proofs.table.entry.Goals as goal
 
 pub returns : goal.returns
-returns c = let a = c.args in c.requires.1 _ (search rules) ∙ entry_at a.k a.x
+returns c = let a = c.args in c.requires.entries _ (search rules) ∙ entry_at a.k a.x

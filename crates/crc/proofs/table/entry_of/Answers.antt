@@ -15,6 +15,6 @@ returns-then-i-lt256 c = cc (entry_low c.args.i (search rules))
 
 pub returns : goal.returns
 returns c = let i = c.args.i in
-    let t = c.requires.1 in
+    let t = c.requires.entries in
     let v = t (i - 256) (search rules) in
     rw (v, t (entry_of (i - 256) % 256) (search rules)) (sym (entry_on i (search rules)))

@@ -1,11 +1,7 @@
 -- `table::table` meets its contract.
 -- Assumes nothing.
-use Rattle.crc.specs.Table.{Entries}
 use Rattle.crc.specs.TableLaws.{entries_more}
 use borrow.Author.Count.{below_none}
-use lib.ListN.{length}
-use Prim.Native.Nat.{◌≤◌, ◌-◌}
-use mathlib.Core.Path.{◌≡◌}
 use borrow.Author.Rules.{rules}
 use Rattle.crc.proofs.table.table.Goals as goal
 

@@ -1,7 +1,6 @@
 -- `again::atom_again` meets its contract.
 -- Assumes nothing.
 use mathlib.Core.Path.{sym}
-use borrow.Author.Rules.{rules}
 use Rattle.ranges.proofs.again.atom_again.Goals as goal
 
 pub returns-in-Unspecified : goal.returns-in-Unspecified

@@ -1,6 +1,5 @@
 -- `again::ending_again` meets its contract.
 -- Assumes nothing.
-use borrow.Author.Rules.{rules}
 use Rattle.ranges.proofs.again.ending_again.Goals as goal
 
 pub returns : goal.returns

@@ -1,7 +1,6 @@
 -- `again::range_again` meets its contract.
 -- Assumes nothing.
 use mathlib.Core.Path.{sym}
-use borrow.Author.Rules.{rules}
 use Rattle.ranges.proofs.again.range_again.Goals as goal
 
 pub returns-in-Found : goal.returns-in-Found

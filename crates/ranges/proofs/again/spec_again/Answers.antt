@@ -1,7 +1,6 @@
 -- `again::spec_again` meets its contract.
 -- Assumes nothing.
 use mathlib.Core.Path.{sym}
-use borrow.Author.Rules.{rules}
 use Rattle.ranges.proofs.again.spec_again.Goals as goal
 
 pub returns-in-Single : goal.returns-in-Single

@@ -1,7 +1,6 @@
 -- `range::double` meets its contract.
 -- Assumes nothing.
 use Rattle.ranges.specs.Range.{double}
-use borrow.Author.Rules.{rules}
 use Rattle.ranges.proofs.range.double.Goals as goal
 
 pub returns-in-Found : goal.returns-in-Found

@@ -6,8 +6,8 @@ use Rattle.ranges.proofs.range.is_sign.Goals as goal
 
 pub returns-then-b-eq43 : goal.returns-then-b-eq43
 unfolding is_sign
-returns-then-b-eq43 c = simp (eq-eqb _ _ c.if-b-eq43.taken)
+returns-then-b-eq43 c = simp (eq-eqb _ _ c.if-b-eq43.true)
 
 pub returns-else-b-eq43 : goal.returns-else-b-eq43
 unfolding is_sign
-returns-else-b-eq43 c = simp (ne_eqb _ _ c.if-b-eq43.left)
+returns-else-b-eq43 c = simp (ne_eqb _ _ c.if-b-eq43.false)

@@ -2,25 +2,13 @@
 -- Assumes nothing.
 use mathlib.Core.Path.{◌≡◌, ◌∙◌, sym, ap}
 use mathlib.Core.Bool.{true}
-use Prim.Native.Nat.{◌-◌, ◌+◌}
+use Prim.Native.Nat.{◌+◌}
 use native.Mathlib.Omega.{arith}
-use lib.ListN.{length, get_or}
-use borrow.Author.Tests.{not-true, not-false}
+use lib.ListN.{get_or}
 use Rattle.ranges.specs.Range.{is_sign, offsets_at}
 use Rattle.ranges.specs.OffsetLaws.{Passed, sign_inside, offset_large}
 use Rattle.ranges.proofs.RangeLaws.{offsets_at_none, offsets_at_large, offsets_at_next}
-use borrow.Author.Rules.{rules}
 use Rattle.ranges.proofs.range.parse_range_modifiers.Goals as goal
-
-passed : (c : tie.After-known-told invariant-loop decreases-loop) →
-    let at-if1 = c.before.before.before.before in
-    let at-loop = at-if1.before.before in
-    let s = at-loop.before.before.before.before.args.s.now in
-    let i = at-loop.loop.i in
-    let o = c.before.j.given.0 in
-    Passed s i o.0 o.1.0 o.1.1.0 (offsets_at s i) (λ m k. offsets_at s k)
-passed c =
-    offsets_at_next _ _ _ _ _ (signed c.before.before.before.before) (sym c.before.before.before.offset_at.ensures ∙ c.before.j.given.1)
 
 pub loop-at-init : goal.loop-at-init
 loop-at-init c = (c.byte_at-b.ensures, c.past_pairs-i.ensures)
@@ -46,7 +34,15 @@ returns-in_default c = let signed : is_sign (get_or c.args.s.now c.loop-at.i 0) 
 -- the offset at i is passed
 
 pub loop-at-smaller : goal.loop-at-smaller
-loop-at-smaller c = omega (arith, (passed c).later, (passed c).within)
+loop-at-smaller c =
+    let signed : is_sign (get_or c.args.s.now c.loop-at.i 0) ≡ true = sym (ap is_sign c.loop-at.invariant.0) ∙ sym c.is_sign.ensures ∙ c.if-not-is_sign.false in
+    let passed : Passed c.args.s.now c.loop-at.i c.in-Is.field-0 c.in-Is.j c.in-Is.c (offsets_at c.args.s.now c.loop-at.i) (λ m k. offsets_at c.args.s.now k) =
+    offsets_at_next _ _ _ _ _ signed (sym c.offset_at.ensures ∙ c.in-Is.is) in
+    omega (arith, passed.later, passed.within)
 
 pub loop-at-preserved : goal.loop-at-preserved
-loop-at-preserved c = ((passed c).byte, c.loop-at.invariant.1 ∙ (passed c).goes)
+loop-at-preserved c =
+    let signed : is_sign (get_or c.args.s.now c.loop-at.i 0) ≡ true = sym (ap is_sign c.loop-at.invariant.0) ∙ sym c.is_sign.ensures ∙ c.if-not-is_sign.false in
+    let passed : Passed c.args.s.now c.loop-at.i c.in-Is.field-0 c.in-Is.j c.in-Is.c (offsets_at c.args.s.now c.loop-at.i) (λ m k. offsets_at c.args.s.now k) =
+    offsets_at_next _ _ _ _ _ signed (sym c.offset_at.ensures ∙ c.in-Is.is) in
+    (passed.byte, c.loop-at.invariant.1 ∙ passed.goes)

@@ -1,15 +1,9 @@
 -- `range::parse_range_modifiers` meets its contract. The invariant: b stands at i, and the offsets from i on end where those from the start do.
 -- Assumes nothing.
-use mathlib.Core.Path.{◌≡◌, ◌∙◌, sym, ap}
-use mathlib.Core.Bool.{true}
-use Prim.Native.Nat.{◌-◌, ◌+◌}
-use native.Mathlib.Omega.{arith}
+use mathlib.Core.Path.{◌≡◌}
+use Prim.Native.Nat.{◌-◌}
 use lib.ListN.{length, get_or}
-use borrow.Author.Tests.{not-true, not-false}
-use Rattle.ranges.specs.Range.{is_sign, offsets_at}
-use Rattle.ranges.specs.OffsetLaws.{Passed, sign_inside, offset_large}
-use Rattle.ranges.proofs.RangeLaws.{offsets_at_none, offsets_at_large, offsets_at_next}
-use borrow.Author.Rules.{rules}
+use Rattle.ranges.specs.Range.{offsets_at}
 use Rattle.ranges.proofs.range.parse_range_modifiers.Given as goal
 
 abbrev pub invariant-loop-at : goal.invariant-loop-at

@@ -2,7 +2,6 @@
 -- Assumes nothing.
 use borrow.Author.Tests.{ne_eqb}
 use Rattle.ranges.specs.Range.{escaped_atom}
-use borrow.Author.Rules.{rules}
 use Rattle.ranges.proofs.range.parse_range_search.Goals as goal
 
 pub returns-in-47 : goal.returns-in-47

@@ -2,7 +2,6 @@
 -- Assumes nothing.
 use borrow.Author.Tests.{ne_eqb}
 use Rattle.ranges.specs.Range.{sign_atom}
-use borrow.Author.Rules.{rules}
 use Rattle.ranges.proofs.range.parse_range_sign.Goals as goal
 
 pub returns-in-46 : goal.returns-in-46

@@ -1,7 +1,6 @@
 -- `range::parse_whole_range` meets its contract.
 -- Assumes nothing.
 use Rattle.ranges.specs.Range.{whole_range}
-use borrow.Author.Rules.{rules}
 use Rattle.ranges.proofs.range.parse_whole_range.Goals as goal
 
 pub returns : goal.returns

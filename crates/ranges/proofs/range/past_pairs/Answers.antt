@@ -1,15 +1,10 @@
 -- `range::past_pairs` meets its contract. The invariant: a sign stands at i, and the offsets from i on end where those from the start do.
 -- Assumes nothing.
-use mathlib.Core.Path.{◌≡◌, refl, ◌∙◌, sym, ap}
-use mathlib.Core.Bool.{true}
-use Prim.Native.Nat.{◌-◌, ◌+◌, ◌≤◌}
+use mathlib.Core.Path.{refl, ◌∙◌, sym, ap}
 use native.Mathlib.Omega.{arith}
-use lib.ListN.{length, get_or}
-use borrow.Author.Tests.{not-false}
-use Rattle.ranges.specs.Range.{is_sign, offsets_at}
+use Rattle.ranges.specs.Range.{is_sign}
 use Rattle.ranges.specs.OffsetLaws.{sign_inside, pair_digit}
 use Rattle.ranges.proofs.RangeLaws.{offsets_at_value}
-use borrow.Author.Rules.{rules}
 use Rattle.ranges.proofs.range.past_pairs.Goals as goal
 
 pub loop-i-init : goal.loop-i-init

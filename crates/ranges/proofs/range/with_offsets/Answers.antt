@@ -1,7 +1,6 @@
 -- `range::with_offsets` meets its contract.
 -- Assumes nothing.
 use Rattle.ranges.specs.Range.{with_offsets}
-use borrow.Author.Rules.{rules}
 use Rattle.ranges.proofs.range.with_offsets.Goals as goal
 
 pub returns-in-End : goal.returns-in-End

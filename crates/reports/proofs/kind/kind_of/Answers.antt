@@ -1,6 +1,6 @@
 -- `kind::kind_of` meets its contract.
 -- Assumes nothing.
-use Rattle.std.proofs.Common.{◌≡◌, false, sym, ap, ◌∙◌, rules}
+use Rattle.std.proofs.Common.{◌≡◌, false, sym, ap, ◌∙◌}
 use Rattle.scan.specs.Ascii.{ascii}
 use Rattle.reports.specs.Texts.{starts_with}
 use Rattle.reports.specs.Kind.{kind_of, of_alias}
@@ -15,10 +15,10 @@ returns-then-starts c = rw (sym c.starts.ensures ∙ c.if-starts.true)
 pub returns-then-starts-2 : goal.returns-then-starts-2
 unfolding kind_of
 returns-then-starts-2 c = let other : starts_with c.args.line.now (ascii "    ") ≡ false = sym c.starts.ensures ∙ c.if-starts.false in
-    rw (other c.before.before.before.before.before, sym c.starts-2.ensures ∙ c.if-starts-2.true)
+    rw (other, sym c.starts-2.ensures ∙ c.if-starts-2.true)
     (c.of_alias.ensures ∙ ap of_alias c.digits.ensures)
 
 pub returns : goal.returns
 unfolding kind_of
 returns c = let other : starts_with c.args.line.now (ascii "    ") ≡ false = sym c.starts.ensures ∙ c.if-starts.false in
-    rw (other c.before.before.before.before, sym c.starts-2.ensures ∙ c.if-starts-2.false) c.of_program.ensures
+    rw (other, sym c.starts-2.ensures ∙ c.if-starts-2.false) c.of_program.ensures

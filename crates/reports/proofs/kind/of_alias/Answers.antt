@@ -1,6 +1,5 @@
 -- `kind::of_alias` meets its contract.
 -- Assumes nothing.
-use Rattle.std.proofs.Common.{rules}
 use Rattle.reports.proofs.kind.of_alias.Goals as goal
 
 pub returns-in-Value : goal.returns-in-Value

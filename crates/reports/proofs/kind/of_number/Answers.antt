@@ -1,6 +1,6 @@
 -- `kind::of_number` meets its contract.
 -- Assumes nothing.
-use Rattle.std.proofs.Common.{sym, rules}
+use Rattle.std.proofs.Common.{sym}
 use Rattle.reports.proofs.kind.of_number.Goals as goal
 
 pub returns-in-Value : goal.returns-in-Value

@@ -1,6 +1,5 @@
 -- `names::last_commas` is safe and ends.
 -- Assumes nothing.
-use Rattle.std.proofs.Common.{◌-◌, length, rules}
 use Rattle.reports.proofs.names.last_commas.Goals as goal
 
 pub loop-i-init : goal.loop-i-init

@@ -1,6 +1,6 @@
 -- `names::last_commas` is safe and ends.
 -- Assumes nothing.
-use Rattle.std.proofs.Common.{◌-◌, length, rules}
+use Rattle.std.proofs.Common.{◌-◌, length}
 use Rattle.reports.proofs.names.last_commas.Given as goal
 
 abbrev pub invariant-loop-i : goal.invariant-loop-i

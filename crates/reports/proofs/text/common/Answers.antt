@@ -1,8 +1,7 @@
 -- `text::common` meets its contract. The invariant: from i on the texts have in common what they have from the start on.
 -- Assumes nothing.
-use Rattle.std.proofs.Common.{◌≡◌, ◌-◌, length, sym, ◌∙◌, rules}
-use Rattle.reports.specs.Texts.{common_of}
-use Rattle.reports.specs.TextsLaws.{common_at, common_on, common_off, common_end, common_end_2}
+use Rattle.std.proofs.Common.{sym, ◌∙◌, rules}
+use Rattle.reports.specs.TextsLaws.{common_on, common_off, common_end, common_end_2}
 use Rattle.reports.proofs.text.common.Goals as goal
 
 pub returns-then-a-i : goal.returns-then-a-i

@@ -1,8 +1,8 @@
 -- `text::common` meets its contract. The invariant: from i on the texts have in common what they have from the start on.
 -- Assumes nothing.
-use Rattle.std.proofs.Common.{◌≡◌, ◌-◌, length, sym, ◌∙◌, rules}
+use Rattle.std.proofs.Common.{◌≡◌, ◌-◌, length}
 use Rattle.reports.specs.Texts.{common_of}
-use Rattle.reports.specs.TextsLaws.{common_at, common_on, common_off, common_end, common_end_2}
+use Rattle.reports.specs.TextsLaws.{common_at}
 use Rattle.reports.proofs.text.common.Given as goal
 
 abbrev pub invariant-loop-i : goal.invariant-loop-i

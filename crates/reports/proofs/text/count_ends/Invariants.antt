@@ -1,6 +1,6 @@
 -- `text::count_ends` meets its contract. The invariant: the last end is not past i, and none stands behind it so far.
 -- Assumes nothing.
-use Rattle.std.proofs.Common.{◌≡◌, ℕ, ◌-◌, ◌<◌, ◌≤◌, length, get_or, ⊎_elim, arith, rules}
+use Rattle.std.proofs.Common.{◌-◌, ◌≤◌, length}
 use Rattle.reports.proofs.text.count_ends.Given as goal
 
 abbrev pub invariant-loop-i : goal.invariant-loop-i

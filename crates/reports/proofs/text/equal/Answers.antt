@@ -1,6 +1,6 @@
 -- `text::equal` meets its contract.
 -- Assumes nothing.
-use Rattle.std.proofs.Common.{rules, eq-eqb, ne_eqb}
+use Rattle.std.proofs.Common.{eq-eqb, ne_eqb}
 use Rattle.reports.specs.Texts.{same_text}
 use Rattle.reports.proofs.text.equal.Goals as goal
 

@@ -7,7 +7,4 @@ use Rattle.scan.specs.RunLaws.{run_at_le, run_at_within}
 use Rattle.reports.proofs.text.line_end.Goals as goal
 
 pub returns : goal.returns
-returns c = let a = c.args in (
-      omega (arith, c.run_end.ensures, run_at_le (is_kind Kind.Text) a.s.now a.at),
-      omega (arith, c.run_end.ensures, run_at_within (is_kind Kind.Text) a.s.now a.at (search rules)),
-    )
+returns c = let a = c.args in record { from = omega (arith, c.run_end.ensures, run_at_le (is_kind Kind.Text) a.s.now a.at); within = omega (arith, c.run_end.ensures, run_at_within (is_kind Kind.Text) a.s.now a.at (search rules)) }

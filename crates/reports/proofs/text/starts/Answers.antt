@@ -1,6 +1,6 @@
 -- `text::starts` meets its contract.
 -- Assumes nothing.
-use Rattle.std.proofs.Common.{ℕ, eqb, length, ap, rules}
+use Rattle.std.proofs.Common.{ℕ, eqb, length, ap}
 use Rattle.reports.specs.Texts.{starts_with}
 use Rattle.reports.proofs.text.starts.Goals as goal
 

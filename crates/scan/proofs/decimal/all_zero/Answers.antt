@@ -1,11 +1,9 @@
 -- `decimal::all_zero` meets its contract. The invariant: while every byte passed, zeros alone stand up to `at + i`.
 -- Assumes nothing.
 use mathlib.Core.Path.{◌≡◌}
-use mathlib.Core.Bool.{true}
-use Prim.Native.Nat.{◌+◌, ◌-◌, ◌≤◌}
+use Prim.Native.Nat.{◌+◌}
 use native.Mathlib.Omega.{arith}
-use Rattle.scan.specs.DigitsLaws.{Zeros, zeros_none, zeros_one, zeros_join}
-use borrow.Author.Rules.{rules}
+use Rattle.scan.specs.DigitsLaws.{zeros_none, zeros_one, zeros_join}
 use Rattle.scan.proofs.decimal.all_zero.Goals as goal
 
 pub loop-i-init : goal.loop-i-init

@@ -3,9 +3,7 @@
 use mathlib.Core.Path.{◌≡◌}
 use mathlib.Core.Bool.{true}
 use Prim.Native.Nat.{◌+◌, ◌-◌, ◌≤◌}
-use native.Mathlib.Omega.{arith}
-use Rattle.scan.specs.DigitsLaws.{Zeros, zeros_none, zeros_one, zeros_join}
-use borrow.Author.Rules.{rules}
+use Rattle.scan.specs.DigitsLaws.{Zeros}
 use Rattle.scan.proofs.decimal.all_zero.Given as goal
 
 abbrev pub invariant-loop-i : goal.invariant-loop-i

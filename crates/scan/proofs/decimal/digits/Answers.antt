@@ -4,10 +4,8 @@ use mathlib.Core.Path.{◌≡◌, ◌∙◌, sym, ap}
 use mathlib.Core.Bool.{true}
 use native.Mathlib.Omega.{arith}
 use lib.ListN.{get_or}
-use borrow.Author.Tests.{not-true, not-false}
 use Rattle.scan.specs.Bytes.{is_digit}
 use Rattle.scan.specs.DigitsLaws.{digital, digit_inside, digits_none, digits_one}
-use borrow.Author.Rules.{rules}
 use Rattle.scan.proofs.decimal.digits.Goals as goal
 
 pub returns-then-not-is_digit : goal.returns-then-not-is_digit

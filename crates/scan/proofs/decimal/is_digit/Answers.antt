@@ -1,7 +1,6 @@
 -- `decimal::is_digit` meets its contract.
 -- Assumes nothing.
 use Rattle.scan.specs.Bytes.{is_digit}
-use borrow.Author.Rules.{rules}
 use Rattle.scan.proofs.decimal.is_digit.Goals as goal
 
 pub returns : goal.returns

@@ -1,16 +1,10 @@
 -- `decimal::many_digits` meets its contract. The invariant: the run goes on at i, and what is left, read after n, has the value of the whole.
 -- Assumes nothing.
-use mathlib.Core.Path.{◌≡◌, ◌∙◌, sym}
-use mathlib.Core.Bool.{true}
-use Prim.Native.Nat.{◌+◌, ◌*◌, ◌≤◌, ◌<◌, ◌^◌, ◌-◌}
-use native.Mathlib.Omega.{arith}
-use borrow.Author.Tests.{not-true, not-false}
-use lib.ListN.{length, get_or}
+use mathlib.Core.Path.{◌≡◌}
+use Prim.Native.Nat.{◌≤◌, ◌<◌, ◌^◌, ◌-◌}
+use lib.ListN.{length}
 use Rattle.scan.specs.Bytes.{is_digit}
 use Rattle.scan.specs.Scan.{run_at, value_at}
-use Rattle.scan.specs.DigitsLaws.{Digital, digital, value_at_on, value_at_off, value_at_end, value_at_le, digits_done, digits_over}
-use Rattle.scan.specs.RunLaws.{run_at_on, run_at_off, run_at_end, run_at_le}
-use borrow.Author.Rules.{rules}
 use Rattle.scan.proofs.decimal.many_digits.Given as goal
 
 abbrev pub invariant-loop-i : goal.invariant-loop-i

@@ -1,11 +1,7 @@
 -- `decimal::past_zeros` meets its contract. The invariant is the contract, at i.
 -- Assumes nothing.
-use Prim.Native.Nat.{◌-◌}
 use native.Mathlib.Omega.{arith}
-use lib.ListN.{length}
-use borrow.Author.Tests.{leb-true, not-false}
-use Rattle.scan.specs.DigitsLaws.{Zeros, zeros_none, zeros_join}
-use borrow.Author.Rules.{rules}
+use Rattle.scan.specs.DigitsLaws.{zeros_none, zeros_join}
 use Rattle.scan.proofs.decimal.past_zeros.Goals as goal
 
 pub returns-then-byte_at-ne48 : goal.returns-then-byte_at-ne48

@@ -3,7 +3,6 @@
 use mathlib.Core.Bool.{false≢true}
 use native.Mathlib.Omega.{arith}
 use borrow.Author.Tests.{ltb-true, ltb-false}
-use borrow.Author.Rules.{rules}
 use Rattle.scan.proofs.decimal.too_large.Goals as goal
 
 pub returns-then-n-le-SMALL : goal.returns-then-n-le-SMALL

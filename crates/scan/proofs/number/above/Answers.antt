@@ -5,7 +5,6 @@ use Prim.Native.Nat.{ℕ}
 use native.Mathlib.Omega.{arith}
 use lib.Bits.{bit_or, or_shifted}
 use lib.Pow.{shl_exact}
-use borrow.Author.Rules.{rules}
 use Rattle.scan.proofs.number.above.Goals as goal
 
 pub returns : goal.returns

@@ -2,7 +2,6 @@
 -- Assumes nothing.
 use mathlib.Core.Path.{◌∙◌}
 use Rattle.scan.specs.NumberLaws.{number_eight}
-use borrow.Author.Rules.{rules}
 use Rattle.scan.proofs.number.eight.Goals as goal
 
 pub returns : goal.returns

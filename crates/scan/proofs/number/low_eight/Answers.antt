@@ -2,7 +2,6 @@
 -- Assumes nothing.
 use mathlib.Core.Path.{◌∙◌}
 use Rattle.scan.specs.NumberLaws.{low_eight}
-use borrow.Author.Rules.{rules}
 use Rattle.scan.proofs.number.low_eight.Goals as goal
 
 pub returns : goal.returns

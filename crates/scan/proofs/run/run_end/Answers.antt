@@ -1,12 +1,7 @@
 -- `run::run_end` meets its contract. The invariant: the run from i on ends where the run from the start does.
 -- Assumes nothing.
-use mathlib.Core.Path.{◌≡◌, ◌∙◌, sym}
-use Prim.Native.Nat.{◌-◌}
-use lib.ListN.{length}
-use borrow.Author.Tests.{not-true, not-false}
+use mathlib.Core.Path.{◌∙◌, sym}
 use borrow.Author.Rules.{rules}
-use Rattle.scan.specs.Bytes.{is_kind}
-use Rattle.scan.specs.Scan.{run_at}
 use Rattle.scan.specs.RunLaws.{run_at_on, run_at_off, run_at_end}
 use Rattle.scan.proofs.run.run_end.Goals as goal
 

@@ -3,7 +3,6 @@
 use mathlib.Core.Path.{refl, ◌∙◌, sym}
 use native.Mathlib.Omega.{arith}
 use Rattle.words.specs.KeyLaws.{all_bytes, short_found, long_found, none_found}
-use borrow.Author.Rules.{rules}
 use Rattle.words.proofs.words.lookup.Goals as goal
 
 pub returns-in-1 : goal.returns-in-1

@@ -40,13 +40,13 @@ returns-in-38 c = rw (keys_1, c.in-38.is)
 pub returns-in_default : goal.returns-in_default
 unfolding key_in keyed
 returns-in_default c = rw (
-      keys_1,
-      ne_eqb _ _ c.in_default.in_default-own.rest.0.0.0.0.0.0.0.1,
-      ne_eqb _ _ c.in_default.in_default-own.rest.0.0.0.0.0.0.1,
-      ne_eqb _ _ c.in_default.in_default-own.rest.0.0.0.0.0.1,
-      ne_eqb _ _ c.in_default.in_default-own.rest.0.0.0.0.1,
-      ne_eqb _ _ c.in_default.in_default-own.rest.0.0.0.1,
-      ne_eqb _ _ c.in_default.in_default-own.rest.0.0.1,
-      ne_eqb _ _ c.in_default.in_default-own.rest.0.1,
-      ne_eqb _ _ c.in_default.in_default-own.rest.1,
-    )
+  keys_1,
+  ne_eqb _ _ c.in_default.in_default-own.rest.0.0.0.0.0.0.0.1,
+  ne_eqb _ _ c.in_default.in_default-own.rest.0.0.0.0.0.0.1,
+  ne_eqb _ _ c.in_default.in_default-own.rest.0.0.0.0.0.1,
+  ne_eqb _ _ c.in_default.in_default-own.rest.0.0.0.0.1,
+  ne_eqb _ _ c.in_default.in_default-own.rest.0.0.0.1,
+  ne_eqb _ _ c.in_default.in_default-own.rest.0.0.1,
+  ne_eqb _ _ c.in_default.in_default-own.rest.0.1,
+  ne_eqb _ _ c.in_default.in_default-own.rest.1,
+)

@@ -36,12 +36,12 @@ returns-in-30561 c = rw (keys_2, c.in-30561.is)
 pub returns-in_default : goal.returns-in_default
 unfolding key_in keyed
 returns-in_default c = rw (
-      keys_2,
-      ne_eqb _ _ c.in_default.in_default-own.rest.0.0.0.0.0.0.1,
-      ne_eqb _ _ c.in_default.in_default-own.rest.0.0.0.0.0.1,
-      ne_eqb _ _ c.in_default.in_default-own.rest.0.0.0.0.1,
-      ne_eqb _ _ c.in_default.in_default-own.rest.0.0.0.1,
-      ne_eqb _ _ c.in_default.in_default-own.rest.0.0.1,
-      ne_eqb _ _ c.in_default.in_default-own.rest.0.1,
-      ne_eqb _ _ c.in_default.in_default-own.rest.1,
-    )
+  keys_2,
+  ne_eqb _ _ c.in_default.in_default-own.rest.0.0.0.0.0.0.1,
+  ne_eqb _ _ c.in_default.in_default-own.rest.0.0.0.0.0.1,
+  ne_eqb _ _ c.in_default.in_default-own.rest.0.0.0.0.1,
+  ne_eqb _ _ c.in_default.in_default-own.rest.0.0.0.1,
+  ne_eqb _ _ c.in_default.in_default-own.rest.0.0.1,
+  ne_eqb _ _ c.in_default.in_default-own.rest.0.1,
+  ne_eqb _ _ c.in_default.in_default-own.rest.1,
+)

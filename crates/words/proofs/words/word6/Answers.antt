@@ -28,10 +28,10 @@ returns-in-130238179469684 c = rw (keys_6, c.in-130238179469684.is)
 pub returns-in_default : goal.returns-in_default
 unfolding key_in keyed
 returns-in_default c = rw (
-      keys_6,
-      ne_eqb _ _ c.in_default.in_default-own.rest.0.0.0.0.1,
-      ne_eqb _ _ c.in_default.in_default-own.rest.0.0.0.1,
-      ne_eqb _ _ c.in_default.in_default-own.rest.0.0.1,
-      ne_eqb _ _ c.in_default.in_default-own.rest.0.1,
-      ne_eqb _ _ c.in_default.in_default-own.rest.1,
-    )
+  keys_6,
+  ne_eqb _ _ c.in_default.in_default-own.rest.0.0.0.0.1,
+  ne_eqb _ _ c.in_default.in_default-own.rest.0.0.0.1,
+  ne_eqb _ _ c.in_default.in_default-own.rest.0.0.1,
+  ne_eqb _ _ c.in_default.in_default-own.rest.0.1,
+  ne_eqb _ _ c.in_default.in_default-own.rest.1,
+)

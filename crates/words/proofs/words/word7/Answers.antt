@@ -36,12 +36,12 @@ returns-in-32758172651451252 c = rw (keys_7, c.in-32758172651451252.is)
 pub returns-in_default : goal.returns-in_default
 unfolding key_in keyed
 returns-in_default c = rw (
-      keys_7,
-      ne_eqb _ _ c.in_default.in_default-own.rest.0.0.0.0.0.0.1,
-      ne_eqb _ _ c.in_default.in_default-own.rest.0.0.0.0.0.1,
-      ne_eqb _ _ c.in_default.in_default-own.rest.0.0.0.0.1,
-      ne_eqb _ _ c.in_default.in_default-own.rest.0.0.0.1,
-      ne_eqb _ _ c.in_default.in_default-own.rest.0.0.1,
-      ne_eqb _ _ c.in_default.in_default-own.rest.0.1,
-      ne_eqb _ _ c.in_default.in_default-own.rest.1,
-    )
+  keys_7,
+  ne_eqb _ _ c.in_default.in_default-own.rest.0.0.0.0.0.0.1,
+  ne_eqb _ _ c.in_default.in_default-own.rest.0.0.0.0.0.1,
+  ne_eqb _ _ c.in_default.in_default-own.rest.0.0.0.0.1,
+  ne_eqb _ _ c.in_default.in_default-own.rest.0.0.0.1,
+  ne_eqb _ _ c.in_default.in_default-own.rest.0.0.1,
+  ne_eqb _ _ c.in_default.in_default-own.rest.0.1,
+  ne_eqb _ _ c.in_default.in_default-own.rest.1,
+)

@@ -20,8 +20,8 @@ returns-in-8531350913433166188 c = rw (keys_8, c.in-8531350913433166188.is)
 pub returns-in_default : goal.returns-in_default
 unfolding key_in keyed
 returns-in_default c = rw (
-      keys_8,
-      ne_eqb _ _ c.in_default.in_default-own.rest.0.0.1,
-      ne_eqb _ _ c.in_default.in_default-own.rest.0.1,
-      ne_eqb _ _ c.in_default.in_default-own.rest.1,
-    )
+  keys_8,
+  ne_eqb _ _ c.in_default.in_default-own.rest.0.0.1,
+  ne_eqb _ _ c.in_default.in_default-own.rest.0.1,
+  ne_eqb _ _ c.in_default.in_default-own.rest.1,
+)

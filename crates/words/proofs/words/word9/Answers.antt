@@ -1,6 +1,5 @@
 -- `words::word9` meets its contract: each pair of numbers is that of one shipped word of this length.
 -- Assumes nothing.
-use borrow.Author.Rules.{rules}
 use borrow.Author.Tests.{ne_eqb}
 use Rattle.words.proofs.Tables.{keys_9}
 use Rattle.words.specs.Keys.{key_in, keyed}
