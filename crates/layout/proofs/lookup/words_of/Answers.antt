@@ -1,0 +1,12 @@
+-- `lookup::words_of` meets its contract.
+-- Assumes nothing.
+use mathlib.Core.Path.{sym, ◌∙◌, ap}
+use Rattle.layout.specs.Layout.{session_of, table_of}
+use Rattle.layout.specs.SoundLaws.{words_none}
+use Rattle.layout.proofs.lookup.words_of.Goals as goal
+
+pub returns-then-byte_at-eq0 : goal.returns-then-byte_at-eq0
+returns-then-byte_at-eq0 c = words_none c.args.b.now _ (sym c.byte_at.ensures ∙ c.if-byte_at-eq0.true) c.part.ensures
+
+pub returns : goal.returns
+returns c = ap (λ b. table_of (session_of b)) c.text_again.ensures
