@@ -5,12 +5,8 @@ use Rattle.words.specs.Words.{shipped, aliases, names, same}
 use Rattle.words.specs.Order.{is_before}
 use Rattle.spellings.specs.Rows.{rows_of, rows_from}
 use Rattle.spellings.specs.Spellings.{in_order, insert_before}
-use Rattle.spellings.proofs.spellings.Statement.{statement}
-use Rattle.spellings.proofs.spellings.Tie as tie
+use Rattle.spellings.proofs.spellings.Goals as goal
 
-returns : tie.Need-returns
+pub returns : goal.returns
 unfolding shipped aliases names rows_of rows_from in_order insert_before is_before same
 returns c = refl
-
-pub spellings-spec : {M : Type 1} → statement M
-spellings-spec = tie.close (tie.spec returns)
