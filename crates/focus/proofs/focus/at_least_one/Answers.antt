@@ -1,0 +1,13 @@
+-- `focus::at_least_one` meets its contract.
+-- Assumes nothing.
+use borrow.Author.Tests.{eq-eqb, ne_eqb}
+use Rattle.focus.specs.Focus.{at_least_one}
+use Rattle.focus.proofs.focus.at_least_one.Goals as goal
+
+pub returns-then-n-eq0 : goal.returns-then-n-eq0
+unfolding at_least_one
+returns-then-n-eq0 c = rw (eq-eqb _ _ c.if-n-eq0.true)
+
+pub returns-else-n-eq0 : goal.returns-else-n-eq0
+unfolding at_least_one
+returns-else-n-eq0 c = rw (ne_eqb _ _ c.if-n-eq0.false)
