@@ -1,0 +1,14 @@
+-- `texts::shown::put_marks` meets its contract.
+-- Assumes nothing.
+use borrow.Author.Rules.{rules}
+use Rattle.texts.specs.BehindLaws.{behind_none, behind_then}
+use Rattle.texts.proofs.shown.put_marks.Goals as goal
+
+pub loop-i-init : goal.loop-i-init
+loop-i-init c = search (rules, behind_none)
+
+pub loop-i-preserved : goal.loop-i-preserved
+loop-i-preserved c = search (rules, behind_then)
+
+pub returns : goal.returns
+returns c = search (rules, behind_then)
