@@ -1,0 +1,20 @@
+-- `phrases::focus::focus` meets its contract.
+-- Assumes nothing.
+use Rattle.texts.specs.BehindLaws.{behind_then, behind_none}
+use borrow.Author.Rules.{rules}
+use Rattle.phrases.proofs.focus.focus.Goals as goal
+
+pub returns-in-0 : goal.returns-in-0
+returns-in-0 c = search (rules, behind_then, behind_none)
+
+pub returns-in-1 : goal.returns-in-1
+returns-in-1 c = search (rules, behind_then, behind_none)
+
+pub returns-in-2 : goal.returns-in-2
+returns-in-2 c = search (rules, behind_then, behind_none)
+
+pub returns-in-3 : goal.returns-in-3
+returns-in-3 c = search (rules, behind_then, behind_none)
+
+pub returns-in-4 : goal.returns-in-4
+returns-in-4 c = search (rules, behind_then, behind_none)

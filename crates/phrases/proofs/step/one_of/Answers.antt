@@ -1,0 +1,11 @@
+-- `phrases::step::one_of` meets its contract.
+-- Assumes nothing.
+use Rattle.texts.specs.BehindLaws.{behind_then, behind_none}
+use borrow.Author.Rules.{rules}
+use Rattle.phrases.proofs.step.one_of.Goals as goal
+
+pub returns-in-0 : goal.returns-in-0
+returns-in-0 c = search (rules, behind_then, behind_none)
+
+pub returns-in-1 : goal.returns-in-1
+returns-in-1 c = search (rules, behind_then, behind_none)
