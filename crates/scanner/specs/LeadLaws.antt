@@ -147,7 +147,7 @@ pub lead_upto : (s : List ℕ) → Upto 0 (lead_of s).argument (pieces (lead_of 
 unfolding pieces
 lead_upto s =
     let o = ordered s in
-    (omega arith, (o.colons-from, (o.start-from, (o.range-from, (o.word-from, (o.newline-from, (o.bang-from, (o.blank-from, (o.argument-from, refl)))))))))
+    (omega arith, (o.colons_from, (o.start_from, (o.range_from, (o.word_from, (o.newline_from, (o.bang_from, (o.blank_from, (o.argument_from, refl)))))))))
 
 -- all pieces but the last, which is what is left over
 abbrev pub read_pieces : Lead → List Piece
@@ -161,7 +161,7 @@ pub read_upto : (s : List ℕ) → Upto 0 (lead_of s).blank (read_pieces (lead_o
 unfolding pieces
 read_upto s =
     let o = ordered s in
-    (omega arith, (o.colons-from, (o.start-from, (o.range-from, (o.word-from, (o.newline-from, (o.bang-from, (o.blank-from, refl))))))))
+    (omega arith, (o.colons_from, (o.start_from, (o.range_from, (o.word_from, (o.newline_from, (o.bang_from, (o.blank_from, refl))))))))
 
 -- the lead of an accepted reading ----------------------------------------------------------------------------------------------------
 

@@ -3,6 +3,7 @@
 -- The struct is Copy: what it owns is had twice, one copy is kept whole for the exit, and of the other what line owns goes to the callee,
 -- beside the lifetime's token, which comes back.
 -- Assumes nothing.
+-- the struct's type, over the signature's lifetimes
 use mathlib.Core.Path.{◌≡◌, refl}
 use Prim.Native.Nat.{ℕ, ◌<◌, ◌^◌}
 use mathlib.Core.List.{[], ◌∷◌}
@@ -19,7 +20,6 @@ use prog.Wp.{Calls, Loops, WpFn, Tables}
 use types.Logic.{Logic, sem}
 use contract.Lifetimes.{Lfts}
 use contract.Monad.{Fun, fact}
-use contract.Running.{tables, tables_of}
 use types.Kit.{‵, raw, ◌⊛◌, given, ⋆, some, later, ◌$◌, ◌∵◌, !, qed, by, move, drop, use1, use2, split, join, learn, pick, fsplit, fjoin, suffices, frame, await, done}
 use types.Part.{whole, sub, look_in}
 use types.Run.{look, init, forget, stop, fld, from, load, of_opd, and_then, no_more, assigns, land, returns, enter, alloc1, alloc0, params1, pass1, pass0, free1, free0}
@@ -39,7 +39,6 @@ use denote.Triple.Statement.{Contract, Triple}
 use denote.Triple.Call.{calls_at}
 use denote.Triple.Entry.{Vals, on_entry}
 use denote.Triple.Spec.{Meets, triple_of}
-use denote.Triple.Table.{entered, cited}
 use denote.Triple.Walked.{says, Stays, stay_none, walk_of, Goes-none, Walks, ends_at, walked, walk_Meets}
 use denote.Exit.{yes}
 use denote.Triple.Clauses.{ensured, lasts}
@@ -51,15 +50,10 @@ use Rattle.scanner.proofs.Scanner.TheLaws as T'
 use Rattle.scanner.specs.contracts.token.Token as S
 use Rattle.scanner.proofs.token.Token.TheLaws as S'
 use Rattle.scanner.specs.contracts.token.covering_token as token
-use Rattle.scanner.proofs.token.covering_token.Symbol as token_def
 use Rattle.scanner.proofs.token.covering_token.Symbol.{name as #covering-token}
-use Rattle.scanner.proofs.token.covering_token.Met as token_thm
-use Rattle.scanner.specs.contracts.look.Key.{name as #look}
 use Rattle.scanner.specs.contracts.look as looked
-use Rattle.scanner.proofs.look.Statement as stated
 use Rattle.scanner.proofs.look.Code as code
 
--- the struct's type, over the signature's lifetimes
 abbrev B : Lfts 1 → RattleType
 B κs = T.the_row (named_lft 1 0 tt κs)
 
@@ -173,11 +167,3 @@ look-meets : {M : Type 1} {𝓤 : Ura M} (𝓛 : Logic 𝓤) (mem : Memory → S
 look-meets {𝓤 = 𝓤} 𝓛 mem run 𝓣 known = walk_Meets 𝓛 looked.ended stayed (Goes-none 𝓛 1 B yes (λ κs x f. refl), (Goes-none 𝓛 1 (λ _. usize) yes (λ κs x f. refl), tt))
     (looked.clauses 𝓛 mem run) (WpFn 𝓤 𝓛.H 𝓣.C 𝓣.Λ code.function) (WpFn-mono 𝓤 𝓛.H 𝓛.laws 𝓣 code.function)
     (look-walks 𝓛 mem run 𝓣.C 𝓣.Λ (fm_of 𝓤 𝓛.H 𝓛.laws 𝓣) known)
-
-pub look_spec : {M : Type 1} → stated.statement M
-unfolding code.routine tables_of
-look_spec 𝓤 𝓛 𝓜 𝓡 =
-    entered 𝓤 𝓛.H (triple_of 𝓛 looked.signature (looked.spec 𝓛 𝓜.mem 𝓡.run))
-    (tables 𝓤 𝓛.H 𝓜 𝓡 code.env).C (tables 𝓤 𝓛.H 𝓜 𝓡 code.env).Λ #look code.function (code.unfolded 𝓤 𝓛.H 𝓜 𝓡)
-    (look-meets 𝓛 𝓜.mem 𝓡.run (tables_of 𝓤 𝓛.H 𝓜 (tables 𝓤 𝓛.H 𝓜 𝓡 code.env))
-    (cited 𝓤 𝓛.H (CoveringToken 𝓛 𝓜.mem 𝓡.run) 𝓜 𝓡 code.env #covering-token token_def.routine code.calls-scanner::token::covering-token (token_thm.met 𝓤 𝓛 𝓜 𝓡)))
