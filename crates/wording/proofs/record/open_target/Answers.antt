@@ -1,0 +1,17 @@
+-- `wording::record::open_target` meets its contract.
+-- Assumes nothing.
+use Rattle.texts.specs.BehindLaws.{behind_then, behind_none}
+use borrow.Author.Rules.{rules}
+use Rattle.wording.proofs.record.open_target.Goals as goal
+
+pub returns-in-0 : goal.returns-in-0
+returns-in-0 c = search (rules, behind_then, behind_none)
+
+pub returns-in-1 : goal.returns-in-1
+returns-in-1 c = search (rules, behind_then, behind_none)
+
+pub returns-in-2 : goal.returns-in-2
+returns-in-2 c = search (rules, behind_then, behind_none)
+
+pub returns-in-3 : goal.returns-in-3
+returns-in-3 c = search (rules, behind_then, behind_none)
