@@ -1,0 +1,32 @@
+-- `reply::end_done` meets its contract.
+-- Assumes nothing.
+use mathlib.Core.Path.{refl}
+use native.Mathlib.Omega.{arith}
+use Rattle.scan.specs.Scan.{part_of}
+use Rattle.scan.specs.PartLaws.{part_short}
+use Rattle.actions.specs.Record.{record_of, paper_of}
+use Rattle.reading.specs.Alone.{at_front}
+use Rattle.store.specs.Splice.{put_length}
+use Rattle.commands.specs.Run.{Out, out_no, out_bytes}
+use Rattle.commands.specs.Line.{store_after}
+use Rattle.run.specs.Reply.{done_at}
+use Rattle.run.specs.ReplyLaws.{end_answer, end_store}
+use Rattle.run.proofs.reply.end_done.Goals as goal
+
+pub put_action-count-requires : goal.put_action-count-requires
+put_action-count-requires c = record {
+  classes = c.requires.classes;
+  s_in_bounds = rw c.part.ensures (omega (arith, c.requires.spare_in_bounds, part_short c.args.line.now c.args.a c.args.e));
+}
+
+pub returns-in-Act : goal.returns-in-Act
+unfolding done_at out_no out_bytes record_of
+returns-in-Act c = let o = Out.act (paper_of (part_of c.args.line.now c.args.a c.args.e) c.in-Act.y) in
+    let n = part_short c.args.line.now c.args.a c.args.e in
+    let w = rw c.part.ensures at c.put_action-count.ensures in
+    rw c.in-Act.is
+    (record { answer = end_answer o _ w.put; store = end_store o w.put (omega (arith, w.most, c.requires.spare_in_bounds, n)); size = put_length w.put })
+
+pub returns-in-Refused : goal.returns-in-Refused
+unfolding done_at store_after at_front out_bytes
+returns-in-Refused c = rw c.in-Refused.is (record { answer = c.end_refused.ensures; store = refl; size = refl })
