@@ -58,6 +58,7 @@ pub fn item_text(s: &[u8], at: usize) -> ItemText
     }
 }
 
+#[tactic(auto, unfolding(crate::specs::Text::quoted_escape))]
 fn quoted_escape(b: u8) -> Escape
     ensures { result ≡ quoted_escape b }
 {
@@ -71,6 +72,7 @@ fn quoted_escape(b: u8) -> Escape
     }
 }
 
+#[tactic(auto, unfolding(crate::specs::Text::plain_escape))]
 fn plain_escape(b: u8) -> Escape
     ensures { result ≡ plain_escape b }
 {

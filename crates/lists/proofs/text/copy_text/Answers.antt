@@ -14,8 +14,6 @@ loop-e-init c = writing_start _ _ _
 pub put_escapes-e-requires : goal.put_escapes-e-requires
 put_escapes-e-requires c = writing_left c.requires.room c.loop-e.invariant
 
--- the start, and the escapes before it, from behind a run
-
 pub put_bytes-m-requires : goal.put_bytes-m-requires
 put_bytes-m-requires c = rw c.part.ensures (writing_room _ _ c.requires.room (bytes_run_to _ _ _ _ c.own_end-j.ensures) (writing_then c.put_escapes-e.ensures.writes c.loop-e.invariant))
 

@@ -18,8 +18,6 @@ returns-in_default c = let b = c.byte_at.ensures in
     let e = sym (c.escape_of.ensures ∙ ap (escape_of c.args.quoted) b) ∙ c.in_default.is in
     sym (c.loop-e.invariant.1 ∙ end_bad c.args.quoted c.args.s.now c.loop-e.i c.loop-e.invariant.0 e)
 
--- where the turn began, from behind an escape
-
 pub overflow_add-i-in-loop-e : goal.overflow_add-i-in-loop-e
 overflow_add-i-in-loop-e c = omega (arith, escape_inside _ c.args.s.now _ _ (sym (c.escape_of.ensures ∙ ap (escape_of _) c.byte_at.ensures) ∙ c.in-Byte.is))
 

@@ -23,7 +23,7 @@ bounds-s-i-in-loop-i c = omega (arith, c.loop-i-test.true, c.last_of-last.ensure
 pub returns-in_default : goal.returns-in_default
 returns-in_default c = record { passed = c.loop-i.invariant; stuck = λ e. sym c.escape_of.ensures ∙ c.in_default.is }
 
--- where the turn began, from behind an escape
+-- at an escape, which is passed
 
 pub overflow_add-n : goal.overflow_add-n
 overflow_add-n c =

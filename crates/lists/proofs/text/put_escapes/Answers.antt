@@ -31,7 +31,7 @@ shape_of-store-in_default c = c.loop-i.invariant.0.size
 pub returns-in_default : goal.returns-in_default
 returns-in_default c = record { writes = c.loop-i.invariant.0; later = c.loop-i.invariant.1; stuck = λ e. sym c.escape_of.ensures ∙ c.in_default.is }
 
--- where the turn began, from behind an escape
+-- at an escape: what it stands for, for which there is room
 
 pub bounds-store-n : goal.bounds-store-n
 bounds-store-n c =

@@ -55,7 +55,7 @@ returns-then-byte_at-ne92 c =
     put_then (rw (sized _ _ _ _ c.own_end-j.ensures n) at c.put_number-i.ensures)
     (rw (c.part.ensures, ← whole _ _ _ _ c.own_end-j.ensures n) at c.put_bytes.ensures)
 
--- with one: the first bytes and the text behind them, how many bytes both are, and that there is room for both behind the number
+-- with one: the first bytes and the text behind them, and how many bytes both are
 
 pub overflow_sub-j-2 : goal.overflow_sub-j-2
 overflow_sub-j-2 c = omega (arith, c.own_end-j.ensures, run_at_le (own c.args.quoted) c.args.s.now c.args.at)

@@ -8,7 +8,7 @@ use Rattle.lists.specs.Text.{own}
 use Rattle.lists.specs.TextLaws.{bytes_count, bytes_length, bytes_run_end, bytes_stuck}
 use Rattle.lists.proofs.text.text_size.Goals as goal
 
--- what is left behind the escapes and a run; and that the run goes on from the escapes
+-- a run goes on from the escapes before it; and how many bytes are left behind both
 
 pub overflow_sub-n : goal.overflow_sub-n
 overflow_sub-n c = omega (arith, c.own_end-j.ensures, run_at_le (own c.args.quoted) c.args.s.now c.past_escapes-e.result.at)
