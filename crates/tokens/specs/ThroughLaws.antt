@@ -1,9 +1,9 @@
 -- Laws of the tokens of a line through its prefixes: those before a place, one after the other; their bytes; and that there are no more of
 -- them than bytes.
 -- Look for `before_on`, `before_end`, `before_all`, `through_prefix`, `through_last`, `line_room_lem`. Assumes nothing.
-use Rattle.std.specs.Prelude.{◌≡◌, Bool, leb, ltb, set}
+use Rattle.std.specs.Prelude.{◌≡◌, Bool, leb, set}
 use Rattle.std.proofs.Math.Path.{refl, ap}
-use Rattle.std.proofs.Common.{◌∙◌, sym, add-one, length-take, length-drop, lt-ltb, le-ltb, ltb-true, ltb-false}
+use Rattle.std.proofs.Common.{◌∙◌, sym, add-one, length-take, length-drop, lt-ltb, le-ltb}
 use Rattle.std.proofs.Math.Bool.{true, false, cond}
 use mathlib.Core.List.{List, [], ◌∷◌, ◌++◌, append-nil}
 use Prim.Native.Nat.{ℕ, zero, suc, ◌+◌, ◌-◌, ◌*◌, ◌<◌, ◌≤◌}
