@@ -18,15 +18,15 @@ use Rattle.focus.specs.SumLaws.{sum_none, sum_large, sum_next, sum_over}
 use Rattle.focus.proofs.sum.sum_mods.Goals as goal
 
 -- the offset at i is passed
-passed : (s : List ℕ) (d : MoveDir1D) (n i b k j x : ℕ) → b ≡ get_or s i 0 → is_sign (get_or s i 0) ≡ true → Offset.Is k j x ≡ offset_at s (i + 1) →
+passed : (s : List ℕ) (d : MoveDir1D) (n i k j x : ℕ) → is_sign (get_or s i 0) ≡ true → Offset.Is k j x ≡ offset_at s (i + 1) →
     Passed s i k j x (sum_at (Sum.Is d n) s i) (λ m l. sum_at (add_to (Sum.Is d n) (eqb (get_or s i 0) 0x2B) m) s l)
-passed s d n i b k j x e t o = sum_next (Sum.Is d n) s i k j x t (sym o)
+passed s d n i k j x t o = sum_next (Sum.Is d n) s i k j x t (sym o)
 
 -- the sum from the offset on, by the offset
 added : (s : List ℕ) (d : MoveDir1D) (n i b k j x : ℕ) → b ≡ get_or s i 0 → is_sign (get_or s i 0) ≡ true → Offset.Is k j x ≡ offset_at s (i + 1) →
     sum_at (Sum.Is d n) s i ≡ sum_at (add_is d n (eqb b 0x2B) k) s j
 unfolding add_to
-added s d n i b k j x e t o = rw e ((passed s d n i b k j x e t o).goes)
+added s d n i b k j x e t o = rw e ((passed s d n i k j x t o).goes)
 
 pub loop-d-init : goal.loop-d-init
 unfolding sum_of
@@ -38,7 +38,6 @@ returns-then-not-is_sign c = let l = c.loop-d in
     sym (l.invariant.1 ∙ sum_none _ _ _ (sym (ap is_sign l.invariant.0) ∙ sym c.is_sign.ensures ∙ c.if-not-is_sign.true))
 
 -- a sign stands at i
-
 pub overflow_add-i : goal.overflow_add-i
 overflow_add-i c = let signed : is_sign (get_or c.args.s.now c.loop-d.i 0) ≡ true = sym (ap is_sign c.loop-d.invariant.0) ∙ sym c.is_sign.ensures ∙ c.if-not-is_sign.false in
     omega (arith, sign_inside c.args.s.now c.loop-d.i (signed))
@@ -71,7 +70,7 @@ loop-d-smaller c =
     let signed : is_sign (get_or c.args.s.now c.loop-d.i 0) ≡ true = sym (ap is_sign c.loop-d.invariant.0) ∙ sym c.is_sign.ensures ∙ c.if-not-is_sign.false in
     let o : Offset.Is c.in-Is.k c.in-Is.j c.in-Is.c ≡ offset_at c.args.s.now (c.loop-d.i + 1) = sym c.in-Is.is ∙ c.offset_at.ensures in
     let l = c.loop-d in
-    let p = passed c.args.s.now l.d l.n l.i l.b c.in-Is.k c.in-Is.j c.in-Is.c l.invariant.0 signed o in
+    let p = passed c.args.s.now l.d l.n l.i c.in-Is.k c.in-Is.j c.in-Is.c signed o in
     omega (arith, p.later, p.within)
 
 pub loop-d-preserved : goal.loop-d-preserved
@@ -81,5 +80,5 @@ loop-d-preserved c =
     let l = c.loop-d in
     let s = c.args.s.now in
     let j = c.in-Is.j in
-    let p = passed c.args.s.now l.d l.n l.i l.b c.in-Is.k c.in-Is.j c.in-Is.c l.invariant.0 signed o in
+    let p = passed c.args.s.now l.d l.n l.i c.in-Is.k c.in-Is.j c.in-Is.c signed o in
     (p.byte, l.invariant.1 ∙ added c.args.s.now l.d l.n l.i l.b c.in-Is.k c.in-Is.j c.in-Is.c l.invariant.0 signed o ∙ ap (λ (a : Sum). sum_at a s j) (sym c.add_is.ensures ∙ c.in-Is-add_is.is))

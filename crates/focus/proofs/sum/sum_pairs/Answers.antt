@@ -42,7 +42,6 @@ unfolding sum_of
 returns-then-not-is_sign-2 c = search rules
 
 -- a digit stands at i + 1, and a sign behind it
-
 pub overflow_sub-c : goal.overflow_sub-c
 overflow_sub-c c = let digit : is_digit (get_or c.args.s.now (c.loop-i.i + 1) 0) ≡ true = sym c.is_digit.ensures ∙ c.if-not-is_digit.false in
     omega (arith, digital _ (digit))
