@@ -1,6 +1,6 @@
 -- Laws of the calls on a session in bytes, as the code cites them: one for each way in which a call ends.
 -- Assumes nothing.
-use Rattle.std.specs.Prelude.{◌≡◌, refl, true, false, List, ℕ, ◌-◌, leb, length}
+use Rattle.std.specs.Prelude.{◌≡◌, refl, true, false, List, ℕ, leb, length}
 use Rattle.limits.specs.Limits.{last_command, alias_limit}
 use Rattle.limits.specs.Refusals.{refusal_no}
 use Rattle.limits.specs.declared.refusal.Refusal.{Refusal}

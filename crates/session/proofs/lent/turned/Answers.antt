@@ -1,0 +1,7 @@
+-- `lent::turned` meets its contract.
+-- Assumes nothing.
+use Rattle.session.specs.LentLaws.{turned_reply}
+use Rattle.session.proofs.lent.turned.Goals as goal
+
+pub returns : goal.returns
+returns c = rw c.number.ensures (turned_reply _)
