@@ -1,6 +1,6 @@
 -- Demand 3, over `line`, the definition of demand 2, and any table of words. Document 01, "For demand 3": what a list of prefixes does
 -- before a last text, as "a single claim about the list, not one for each prefix", and how many readings a line can take.
--- These are the statements; Demand3.antt has the theorems, for every session.
+-- These are the statements; proofs/Demand3.antt has the theorems, for every session.
 -- Assumes nothing.
 use Rattle.std.specs.Prelude.{◌≡◌, true, List, [], ◌∷◌, ◌++◌, ℕ, ◌+◌, ◌≤◌, ◌/◌, length}
 use Rattle.limits.specs.Limits.{line_limit}

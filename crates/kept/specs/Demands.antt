@@ -11,7 +11,7 @@ use Rattle.reading.specs.Behind.{NoNewline}
 use Rattle.commands.specs.Line.{store_after}
 use Rattle.demands.specs.Statement.{Passes, joined, typed, AllAlone, context_from, lasts, AboutLists, AboutReadings}
 use Rattle.demands.specs.Shortest.{shortest, limit, Aliases}
-use Rattle.demands.specs.Demand3.{demand3_lists, demand3_readings, demand3_limit}
+use Rattle.demands.proofs.Demand3.{demand3_lists, demand3_readings, demand3_limit}
 use Rattle.layout.specs.Layout.{Session, well_formed, table_of, session_of, sound}
 use Rattle.layout.specs.SoundLaws.{formed_rows, sound_rows}
 use Rattle.session.specs.Lent.{line_answer}

@@ -5,10 +5,10 @@ use Rattle.std.specs.Prelude.{◌≡◌, refl, List, [], ℕ, ◌+◌, ◌≤◌
 use Rattle.std.proofs.Math.Option.{Option, none, some}
 use Rattle.words.specs.Words.{Row, shipped, table_with}
 use Rattle.context.specs.Context.{fresh}
-use Rattle.demands.specs.Bound.{about_readings}
-use Rattle.demands.specs.Prefixes.{about_lists}
+use Rattle.demands.proofs.Bound.{about_readings}
+use Rattle.demands.proofs.Prefixes.{about_lists}
 use Rattle.demands.specs.Shortest.{shortest, limit, Aliases}
-use Rattle.demands.specs.ShortestLaws.{shortest_shipped, shortest_none, shortest_some, bang_none}
+use Rattle.demands.proofs.ShortestLaws.{shortest_shipped, shortest_none, shortest_some, bang_none}
 use Rattle.demands.specs.Statement.{typed, AboutLists, AboutReadings}
 
 -- prefixes before a last text

@@ -39,7 +39,7 @@ use Rattle.commands.specs.Line.{turned, line, store_after}
 use Rattle.commands.specs.declared.next.Change.{Change}
 use Rattle.commands.specs.declared.next.Next.{Next}
 use Rattle.commands.specs.declared.next.Role.{Role}
-use Rattle.demands.specs.Last.{context_last}
+use Rattle.demands.proofs.Last.{context_last}
 use Rattle.demands.specs.Statement.{Passes, joined, Accepted, sets_tab, sets_by, NamesPrefix, typed, Alone, AllAlone, read_sets, sets, context_from, AboutLists}
 
 -- the checks --------------------------------------------------------------------------------------------------------------------------

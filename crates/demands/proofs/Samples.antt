@@ -19,7 +19,7 @@ use Rattle.context.specs.Context.{fresh}
 use Rattle.commands.specs.Handle.{role_of}
 use Rattle.commands.specs.Run.{by_focus, by_role, by_name, by_reading, role_named, decide, change, trim, step, run, run_on, line_from}
 use Rattle.commands.specs.Line.{line}
-use Rattle.demands.specs.Demand3.{demand3_lists}
+use Rattle.demands.proofs.Demand3.{demand3_lists}
 use Rattle.demands.specs.Shortest.{names_prefix, shortest_of, shortest, limit}
 use Rattle.demands.specs.Statement.{typed, AllAlone, ListClaim}
 
