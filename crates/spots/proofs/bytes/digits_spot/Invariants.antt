@@ -1,0 +1,10 @@
+-- `spots::bytes::digits_spot` meets its contract.
+-- Assumes nothing.
+use Rattle.std.proofs.Common.{◌-◌, length}
+use Rattle.spots.proofs.bytes.digits_spot.Given as goal
+
+abbrev pub invariant-loop-i : goal.invariant-loop-i
+invariant-loop-i l = Unit {0}
+
+abbrev pub decreases-loop-i : goal.decreases-loop-i
+decreases-loop-i l = length l.s - l.i
