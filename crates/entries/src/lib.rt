@@ -1,4 +1,4 @@
-// The session over C: include/pagyolint.h declares these functions, with each argument's rule.
+// The session over C: include/pagyolint.h declares these functions, with each argument's rule, and `pagyolint` exports them.
 #![tactic(auto)]
 
 ghost use Rattle.std.specs.Prelude.{◌≡◌, length};
@@ -9,16 +9,14 @@ ghost use Rattle.session.specs.Lent.{fresh_no, fresh_bytes, line_answer, line_by
 use run::reply::LineReply;
 use session::lent::{CountReply, alias_in, fresh_in, line_in, remembered_in};
 
-#[unsafe(no_mangle)]
-pub extern "C" fn pagyolint_fresh(session: &mut [u8]) -> u64
+pub fn pagyolint_fresh(session: &mut [u8]) -> u64
     ensures answer { result ≡ fresh_no session.old }
     ensures session { session.new ≡ fresh_bytes session.old }
 {
     fresh_in(session)
 }
 
-#[unsafe(no_mangle)]
-pub extern "C" fn pagyolint_line(session: &mut [u8], line: &[u8], store: &mut [u8]) -> LineReply
+pub fn pagyolint_line(session: &mut [u8], line: &[u8], store: &mut [u8]) -> LineReply
     ensures answer { result ≡ reply (line_answer session.old line.now (length store.old)) }
     ensures store { store.new ≡ store_after (line_answer session.old line.now (length store.old)).out store.old }
     ensures session { session.new ≡ line_bytes session.old line.now (length store.old) }
@@ -26,16 +24,14 @@ pub extern "C" fn pagyolint_line(session: &mut [u8], line: &[u8], store: &mut [u
     line_in(session, line, store)
 }
 
-#[unsafe(no_mangle)]
-pub extern "C" fn pagyolint_alias(session: &mut [u8], word: &[u8], command: u64) -> u64
+pub fn pagyolint_alias(session: &mut [u8], word: &[u8], command: u64) -> u64
     ensures answer { result ≡ alias_no session.old word.now command }
     ensures session { session.new ≡ alias_bytes session.old word.now command }
 {
     alias_in(session, word, command)
 }
 
-#[unsafe(no_mangle)]
-pub extern "C" fn pagyolint_remembered(session: &[u8], store: &mut [u8]) -> CountReply
+pub fn pagyolint_remembered(session: &[u8], store: &mut [u8]) -> CountReply
     ensures refusal { result.refusal ≡ read_back_no session.now (length store.old) }
     ensures count { result.count ≡ read_back_count session.now (length store.old) }
     ensures store { store.new ≡ read_back_store session.now store.old }
