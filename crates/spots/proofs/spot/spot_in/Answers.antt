@@ -7,8 +7,5 @@ use Rattle.spots.proofs.spot.spot_in.Goals as goal
 pub returns-then-e-a : goal.returns-then-e-a
 returns-then-e-a c = record { placed = unfound_placed _ c.nowhere.ensures; same = λ h k. absurd (omega arith) }
 
-pub returns-then-line-e : goal.returns-then-line-e
-returns-then-line-e c = record { placed = unfound_placed _ c.nowhere-then-line-e.ensures; same = λ h k. absurd (omega arith) }
-
 pub returns : goal.returns
 returns c = record { placed = found_placed _ _ _ c.between.ensures (omega arith) (omega arith); same = λ _ _. c.between.ensures }
