@@ -12,7 +12,7 @@ ghost use Rattle.tokens.specs.Through.{tokens_no, tokens_count, tokens_store};
 ghost use Rattle.pagyolint.specs.Texts.{copy_no, copy_count, copy_store, name_no, name_count, name_store, version_number};
 
 use run::reply::LineReply;
-use session::lent::{CountReply, alias_in, fresh_in, line_in, remembered_in};
+use session::lent::CountReply;
 use text::{command_name, refusal_text};
 use tokens::call::tokens_in;
 
@@ -24,7 +24,7 @@ pub extern "C" fn pagyolint_fresh(session: &mut [u8]) -> u64
     ensures answer { result ≡ fresh_no session.old }
     ensures session { session.new ≡ fresh_bytes session.old }
 {
-    fresh_in(session)
+    entries::pagyolint_fresh(session)
 }
 
 #[unsafe(no_mangle)]
@@ -33,7 +33,7 @@ pub extern "C" fn pagyolint_line(session: &mut [u8], line: &[u8], store: &mut [u
     ensures store { store.new ≡ store_after (line_answer session.old line.now (length store.old)).out store.old }
     ensures session { session.new ≡ line_bytes session.old line.now (length store.old) }
 {
-    line_in(session, line, store)
+    entries::pagyolint_line(session, line, store)
 }
 
 #[unsafe(no_mangle)]
@@ -41,7 +41,7 @@ pub extern "C" fn pagyolint_alias(session: &mut [u8], word: &[u8], command: u64)
     ensures answer { result ≡ alias_no session.old word.now command }
     ensures session { session.new ≡ alias_bytes session.old word.now command }
 {
-    alias_in(session, word, command)
+    entries::pagyolint_alias(session, word, command)
 }
 
 #[unsafe(no_mangle)]
@@ -50,7 +50,7 @@ pub extern "C" fn pagyolint_remembered(session: &[u8], store: &mut [u8]) -> Coun
     ensures count { result.count ≡ read_back_count session.now (length store.old) }
     ensures store { store.new ≡ read_back_store session.now store.old }
 {
-    remembered_in(session, store)
+    entries::pagyolint_remembered(session, store)
 }
 
 #[unsafe(no_mangle)]
