@@ -2,8 +2,9 @@
 // A vector: op, the text's length (two bytes, low first), the text, the answer's length (two bytes, low first), the answer.
 #![tactic(auto)]
 
-use libc::STDOUT_FILENO;
 use limits::refusal::{Refusal, number};
+use std::io;
+use std::io::Read;
 
 // A vector that was read: its op and the lengths of its text and its answer; or the end; or an input that stops within a vector.
 #[derive(Clone, Copy)]
@@ -30,38 +31,50 @@ pub fn pair(low: u8, high: u8) -> usize {
     wide(low) | (wide(high) << 8)
 }
 
+// Reads until a buffer is full or the input ends, and answers how many bytes are at its front.
+pub fn read_full<R: Read>(input: &mut R, buffer: &mut [u8]) -> io::Result<usize> {
+    let mut rest = input.by_ref().take(buffer.len() as u64);
+    let mut room = buffer;
+    let n = io::copy(&mut rest, &mut room)?;
+    Ok(n as usize)
+}
+
 // Reads n bytes to the front of a buffer, where they fit.
-fn read_front(fd: i32, buffer: &mut [u8], n: usize) -> bool {
+fn read_front<R: Read>(input: &mut R, buffer: &mut [u8], n: usize) -> io::Result<bool> {
     if n <= buffer.len() {
-        io::read_full(fd, &mut buffer[0..n]) == n
+        Ok(read_full(input, &mut buffer[0..n])? == n)
     } else {
-        false
+        Ok(false)
     }
 }
 
 // Reads the next vector: its text to the front of `text`, its answer to the front of `answer`.
-pub fn next_vector(fd: i32, text: &mut [u8], answer: &mut [u8]) -> Frame {
+pub fn next_vector<R: Read>(
+    input: &mut R,
+    text: &mut [u8],
+    answer: &mut [u8],
+) -> io::Result<Frame> {
     let mut head = [0u8; 3];
-    let got = io::read_full(fd, &mut head);
+    let got = read_full(input, &mut head)?;
     if got == 0 {
-        return Frame::End;
+        return Ok(Frame::End);
     }
     if got != 3 {
-        return Frame::Broken;
+        return Ok(Frame::Broken);
     }
     let n = pair(head[1], head[2]);
-    if !read_front(fd, text, n) {
-        return Frame::Broken;
+    if !read_front(input, text, n)? {
+        return Ok(Frame::Broken);
     }
     let mut size = [0u8; 2];
-    if !read_front(fd, &mut size, 2) {
-        return Frame::Broken;
+    if !read_front(input, &mut size, 2)? {
+        return Ok(Frame::Broken);
     }
     let m = pair(size[0], size[1]);
-    if !read_front(fd, answer, m) {
-        return Frame::Broken;
+    if !read_front(input, answer, m)? {
+        return Ok(Frame::Broken);
     }
-    Frame::Vector(head[0], n, m)
+    Ok(Frame::Vector(head[0], n, m))
 }
 
 // One byte more, where there is room.
@@ -128,41 +141,38 @@ fn stop(t: Tally) -> Tally {
     }
 }
 
-fn tell_place(what: &[u8], place: u64) {
-    io::write_all(STDOUT_FILENO, what);
-    io::print_decimal(STDOUT_FILENO, place);
-    io::write_all(STDOUT_FILENO, b"\n");
+fn tell_place(rt: &impl Print, what: &str, place: u64) -> io::Result<()> {
+    println!(rt; "{what}{place}")
 }
 
 // One vector more: it agrees, or it is named.
-pub fn counted(t: Tally, agrees: bool) -> Tally {
-    let total = std::num::wrapping_add_u64(t.total, 1);
+pub fn counted(rt: &impl Print, t: Tally, agrees: bool) -> io::Result<Tally> {
+    let total = t.total.wrapping_add(1);
     if agrees {
-        return Tally {
-            agree: std::num::wrapping_add_u64(t.agree, 1),
+        return Ok(Tally {
+            agree: t.agree.wrapping_add(1),
             total: total,
             more: true,
-        };
+        });
     }
-    tell_place(b"differs: vector ", t.total);
-    Tally {
+    tell_place(rt, "differs: vector ", t.total)?;
+    Ok(Tally {
         agree: t.agree,
         total: total,
         more: true,
-    }
+    })
 }
 
 // The end of the run: how many agree.
-pub fn finished(t: Tally) -> Tally {
-    io::print_decimal(STDOUT_FILENO, t.agree);
-    io::write_all(STDOUT_FILENO, b" of ");
-    io::print_decimal(STDOUT_FILENO, t.total);
-    io::write_all(STDOUT_FILENO, b" agree\n");
-    stop(t)
+pub fn finished(rt: &impl Print, t: Tally) -> io::Result<Tally> {
+    let agree = t.agree;
+    let total = t.total;
+    println!(rt; "{agree} of {total} agree")?;
+    Ok(stop(t))
 }
 
 // An input that stops within a vector.
-pub fn broken(t: Tally) -> Tally {
-    tell_place(b"broken: vector ", t.total);
-    stop(t)
+pub fn broken(rt: &impl Print, t: Tally) -> io::Result<Tally> {
+    tell_place(rt, "broken: vector ", t.total)?;
+    Ok(stop(t))
 }
