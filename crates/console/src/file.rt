@@ -2,8 +2,12 @@
 ghost use Rattle.texts.specs.Behind.{Behind};
 
 use super::program::Program;
-use super::told::{say, tell};
+use super::told::{Errors, say, tell};
 use scan::part::{byte_at, part};
+use std::io::{Read, Seek, SeekFrom};
+use std::rt::Files;
+use std::str::from_utf8;
+use std::{fs, io};
 use texts::put::{put_byte, put_decimal, put_quoted, put_text};
 
 // How many bytes were read, their CRC-32 so far, whether more is to be read, and whether nothing failed.
@@ -15,11 +19,42 @@ pub struct Sum {
     pub good: bool,
 }
 
-// A file that is open at its start, and its sum.
-#[derive(Clone, Copy)]
+// A file that is open at its start, or none, and its sum.
+#[derive(Drop)]
 pub struct File {
-    pub fd: i32,
+    pub handle: Option<fs::File>,
     pub sum: Sum,
+}
+
+// What the system answers where there is no file, or a path is no text.
+const NO_FILE: i32 = 9;
+
+const NO_TEXT: i32 = 84;
+
+impl Read for File {
+    fn read(&mut self, buf: &mut [u8]) -> io::Result<usize> {
+        match &mut self.handle {
+            Some(handle) => handle.read(buf),
+            None => Err(io::Error::from_raw_os_error(NO_FILE)),
+        }
+    }
+}
+
+impl Seek for File {
+    fn seek(&mut self, to: SeekFrom) -> io::Result<u64> {
+        match &mut self.handle {
+            Some(handle) => handle.seek(to),
+            None => Err(io::Error::from_raw_os_error(NO_FILE)),
+        }
+    }
+}
+
+// Opens a file to read it. Only a path that is UTF-8 can be opened.
+pub fn open_read<R: Files>(rt: &R, path: &[u8]) -> io::Result<R::File> {
+    match from_utf8(path) {
+        Ok(path) => fs::open(rt, path),
+        Err(_) => Err(io::Error::from_raw_os_error(NO_TEXT)),
+    }
 }
 
 // Of no byte.
@@ -35,7 +70,7 @@ pub fn no_sum() -> Sum {
 // With more bytes.
 pub fn summed(s: Sum, bytes: &[u8]) -> Sum {
     let mut t = s;
-    t.bytes = std::num::wrapping_add_u64(s.bytes, bytes.len() as u64);
+    t.bytes = s.bytes.wrapping_add(bytes.len() as u64);
     t.crc = crc::more(s.crc, bytes);
     t
 }
@@ -54,77 +89,90 @@ pub fn is_same(s: Sum, t: Sum) -> bool {
 }
 
 // That a call on a file failed. Standard input has no name.
-pub fn tell_of(p: Program, name: &[u8]) {
+pub fn tell_of(rt: &impl Errors, p: Program, name: &[u8], e: io::Error) {
     if name.len() == 0 {
-        tell(p, b"standard input");
+        tell(rt, p, b"standard input", e);
         return;
     }
-    tell(p, name);
+    tell(rt, p, name, e);
 }
 
 // What is wrong with a file.
-pub fn say_of(p: Program, name: &[u8], wrong: &[u8]) {
+pub fn say_of(rt: &impl Errors, p: Program, name: &[u8], wrong: &[u8]) {
     if name.len() == 0 {
-        say(p, b"standard input", wrong);
+        say(rt, p, b"standard input", wrong);
         return;
     }
-    say(p, name, wrong);
+    say(rt, p, name, wrong);
 }
 
 // Reads once.
-fn turn(p: Program, fd: i32, name: &[u8], s: Sum) -> Sum {
-    let mut bytes = io::large_buffer();
-    let got = libc::read(fd, &mut bytes);
-    if got < 0 {
-        tell_of(p, name);
-        return ended(s, false);
+fn turn<F: Read>(rt: &impl Errors, p: Program, file: &mut F, name: &[u8], s: Sum) -> Sum {
+    let mut bytes = [0u8; 65536];
+    match file.read(&mut bytes) {
+        Err(e) => {
+            tell_of(rt, p, name, e);
+            ended(s, false)
+        }
+        Ok(0) => ended(s, true),
+        Ok(n) => summed(s, part(&bytes, 0, n)),
     }
-    let n = io::count(got, &bytes);
-    if n == 0 {
-        return ended(s, true);
-    }
-    summed(s, part(&bytes, 0, n))
 }
 
 // Reads to the end.
-fn sum_of(p: Program, fd: i32, name: &[u8]) -> Sum {
-    let mut turns = u64::MAX;
+fn sum_of<F: Read>(rt: &impl Errors, p: Program, file: &mut F, name: &[u8]) -> Sum {
     let mut s = no_sum();
-    while turns > 0 && s.more {
-        s = turn(p, fd, name, s);
-        turns -= 1;
+    for _ in 0..u64::MAX {
+        if !s.more {
+            break;
+        }
+        s = turn(rt, p, file, name, s);
     }
     s
 }
 
 // Goes back to the start.
-pub fn rewound(p: Program, fd: i32, name: &[u8], s: Sum) -> Sum {
-    if s.good && libc::lseek(fd, 0, libc::SEEK_SET) < 0 {
-        tell_of(p, name);
-        return ended(s, false);
+pub fn rewound<F: Seek>(rt: &impl Errors, p: Program, file: &mut F, name: &[u8], s: Sum) -> Sum {
+    if !s.good {
+        return s;
     }
-    s
+    match file.seek(SeekFrom::Start(0)) {
+        Ok(_) => s,
+        Err(e) => {
+            tell_of(rt, p, name, e);
+            ended(s, false)
+        }
+    }
 }
 
 // No file, which is good or not.
 pub fn no_file(good: bool) -> File {
     File {
-        fd: -1,
+        handle: None,
         sum: ended(no_sum(), good),
     }
 }
 
 // Opens a file, sums it and goes back to its start. What fails is told, and then the sum is not good.
-pub fn open_file(p: Program, path: &[u8], name: &[u8]) -> File {
-    let fd = os::open_read(path);
-    if fd < 0 {
-        tell_of(p, name);
-        return no_file(false);
-    }
-    let s = sum_of(p, fd, name);
-    File {
-        fd: fd,
-        sum: rewound(p, fd, name, s),
+pub fn open_file<R: Errors + Files<File = fs::File>>(
+    rt: &R,
+    p: Program,
+    path: &[u8],
+    name: &[u8],
+) -> File {
+    match open_read(rt, path) {
+        Err(e) => {
+            tell_of(rt, p, name, e);
+            no_file(false)
+        }
+        Ok(mut handle) => {
+            let s = sum_of(rt, p, &mut handle, name);
+            let sum = rewound(rt, p, &mut handle, name, s);
+            File {
+                handle: Some(handle),
+                sum: sum,
+            }
+        }
     }
 }
 

@@ -1,6 +1,13 @@
 // What failed, told on standard error, and the verdict.
+ghost use Rattle.texts.specs.Behind.{Behind};
+
 use super::program::{Program, put_program};
 use scan::part::part;
+use std::fs::OpenOptions;
+use std::io;
+use std::io::{Cursor, Write};
+use std::rt::{Env, Files};
+use std::str::from_utf8;
 use texts::put::{put_byte, put_text};
 use texts::shown::put_shown;
 
@@ -13,8 +20,41 @@ pub const REFUSED: u64 = 1;
 // The program could not do its work.
 pub const FAILED: u64 = 2;
 
-// Where the script that starts the program waits for its verdict.
-const VERDICT_FILENO: i32 = 3;
+// The environment variable that names the file where the script that starts the program waits for its verdict.
+const VERDICT: &str = "PAGYOLINT_VERDICT";
+
+// Where messages go: bytes, which need not be text.
+pub trait Errors {
+    fn write_error(&self, bytes: &[u8]) -> io::Result<()>;
+}
+
+// Standard error.
+impl Errors for HostRuntime {
+    fn write_error(&self, bytes: &[u8]) -> io::Result<()> {
+        Print::write_all(&self.stderr(), bytes)
+    }
+}
+
+// Where the words of an error end: before the number that std puts behind those of the system.
+fn words_end(text: &[u8], e: io::Error) -> usize {
+    if e.raw_os_error().is_none() {
+        return text.len();
+    }
+    match text.iter().rposition(|b| *b == b'(') {
+        Some(i) => i.saturating_sub(1),
+        None => text.len(),
+    }
+}
+
+// Why a call failed.
+pub fn put_reason(out: &mut [u8], at: usize, e: io::Error) -> usize
+    ensures { Behind out.old out.new at result }
+{
+    let mut text = Cursor::new([0u8; 256]);
+    let _ = write!(text, "{e}");
+    let all = part(text.get_ref(), 0, text.position() as usize);
+    put_text(out, at, part(all, 0, words_end(all, e)))
+}
 
 // The program, and what the message is about.
 fn put_about(out: &mut [u8], p: Program, what: &[u8]) -> usize {
@@ -23,23 +63,35 @@ fn put_about(out: &mut [u8], p: Program, what: &[u8]) -> usize {
     put_shown(out, j, what)
 }
 
-// That a call failed, and why: called right behind it, while errno has the reason.
-pub fn tell(p: Program, what: &[u8]) {
-    let mut text = io::large_buffer();
-    let n = put_about(&mut text, p, what);
-    os::fail(part(&text, 0, n));
+// That a call failed, and why.
+pub fn tell(rt: &impl Errors, p: Program, what: &[u8], e: io::Error) {
+    let mut text = [0u8; 65536];
+    let i = put_about(&mut text, p, what);
+    let j = put_text(&mut text, i, b": ");
+    let k = put_reason(&mut text, j, e);
+    let l = put_byte(&mut text, k, 0x0A);
+    let _ = rt.write_error(part(&text, 0, l));
 }
 
 // What is wrong, where no call failed.
-pub fn say(p: Program, what: &[u8], wrong: &[u8]) {
-    let mut text = io::large_buffer();
+pub fn say(rt: &impl Errors, p: Program, what: &[u8], wrong: &[u8]) {
+    let mut text = [0u8; 65536];
     let i = put_about(&mut text, p, what);
     let j = put_text(&mut text, i, wrong);
     let k = put_byte(&mut text, j, 0x0A);
-    io::write_all(libc::STDERR_FILENO, part(&text, 0, k));
+    let _ = rt.write_error(part(&text, 0, k));
 }
 
 // Hands the verdict over. Where nobody waits for it there is nobody to tell.
-pub fn hand_over(verdict: u64) {
-    io::print_decimal(VERDICT_FILENO, verdict);
+pub fn hand_over<R: Env + Files>(rt: &R, verdict: u64) {
+    let mut buffer = [0u8; 4096];
+    let Ok(n) = rt.var(VERDICT, &mut buffer) else {
+        return;
+    };
+    let Ok(path) = from_utf8(part(&buffer, 0, n)) else {
+        return;
+    };
+    if let Ok(mut file) = OpenOptions::new().write(true).open(rt, path) {
+        let _ = write!(file, "{verdict}");
+    }
 }
