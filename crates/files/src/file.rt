@@ -1,12 +1,15 @@
 // Bytes of a file, from any place of it.
 use super::tell::{tell, tell_failed};
+use console::told::Errors;
+use std::fs::File;
+use std::os::unix::fs::FileExt;
 
 // So much further on.
 pub fn further(at: u64, n: u64) -> u64 {
-    std::num::wrapping_add_u64(at, n)
+    at.wrapping_add(n)
 }
 
-// A place as C takes it.
+// A place as the system takes it.
 fn offset(at: u64) -> i64 {
     if at < 0x7FFFFFFFFFFFFFFF {
         at as i64
@@ -15,7 +18,7 @@ fn offset(at: u64) -> i64 {
     }
 }
 
-// A place as C answers it; 0 for a negative number.
+// A place as the system answers it; 0 for a negative number.
 pub fn place_of(offset: i64) -> u64 {
     if offset < 0 {
         return 0;
@@ -37,15 +40,24 @@ fn before(n: usize, at: u64, stop: u64) -> usize {
 
 // Puts bytes of a file from `at` on, but none from `stop` on, at the start of a buffer. Answers how many; none are there to be read if the
 // read fails or the file was cut, which is told.
-pub fn window(name: &[u8], fd: i32, at: u64, stop: u64, bytes: &mut [u8]) -> usize {
-    let got = libc::pread(fd, bytes, offset(at));
-    if got < 0 {
-        tell_failed(name);
-        return 0;
+pub fn window(
+    rt: &impl Errors,
+    name: &[u8],
+    file: &File,
+    at: u64,
+    stop: u64,
+    bytes: &mut [u8],
+) -> usize {
+    match file.read_at(bytes, place_of(offset(at))) {
+        Err(e) => {
+            tell_failed(rt, name, e);
+            0
+        }
+        Ok(n) => {
+            if n == 0 {
+                tell(rt, name, b" became shorter while it was read");
+            }
+            before(n, at, stop)
+        }
     }
-    let n = io::count(got, bytes);
-    if n == 0 {
-        tell(name, b" became shorter while it was read");
-    }
-    before(n, at, stop)
 }

@@ -1,10 +1,14 @@
 // Whether a file is a whole report: its first line names a program, and its last line has the number of the bytes before it.
-use super::file::{further, place_of, window};
+use super::file::{further, window};
 use super::tell::{tell, tell_changed, tell_failed};
+use console::told::Errors;
 use reports::kind::{Kind, kind_of};
 use reports::text::{count_ends, first_line, starts};
 use scan::decimal::{Decimal, digits};
 use scan::part::{byte_at, part};
+use std::fs::File;
+use std::io::{Seek, SeekFrom};
+use std::os::unix::fs::FileExt;
 
 // What a file is: a report, and where its last line starts; nothing that can be read, which was told; no report; one whose last line has
 // no number; or one whose number and whose bytes differ.
@@ -89,9 +93,9 @@ struct Sum {
 }
 
 // Adds what one read brings.
-fn sum_turn(name: &[u8], fd: i32, stop: u64, s: Sum) -> Sum {
-    let mut bytes = io::large_buffer();
-    let n = window(name, fd, s.at, stop, &mut bytes);
+fn sum_turn(rt: &impl Errors, name: &[u8], file: &File, stop: u64, s: Sum) -> Sum {
+    let mut bytes = [0u8; 65536];
+    let n = window(rt, name, file, s.at, stop, &mut bytes);
     if n == 0 {
         return Sum {
             crc: s.crc,
@@ -107,24 +111,26 @@ fn sum_turn(name: &[u8], fd: i32, stop: u64, s: Sum) -> Sum {
     }
 }
 
-// The sum of the bytes before `stop`. A proved loop has to end, so it counts its turns down from a number that no run uses up.
-fn sum_before(name: &[u8], fd: i32, stop: u64) -> Sum {
-    let mut turns = u64::MAX;
+// The sum of the bytes before `stop`. A proved loop has to end, so it counts its turns up to a number that no run
+// reaches.
+fn sum_before(rt: &impl Errors, name: &[u8], file: &File, stop: u64) -> Sum {
     let mut s = Sum {
         crc: crc::start(),
         at: 0,
         more: true,
     };
-    while turns > 0 && s.more {
-        s = sum_turn(name, fd, stop, s);
-        turns -= 1;
+    for _ in 0..u64::MAX {
+        if !s.more {
+            break;
+        }
+        s = sum_turn(rt, name, file, stop, s);
     }
     s
 }
 
 // A report with a number, by the sum of the bytes before its last line.
-fn by_sum(name: &[u8], fd: i32, last: u64, number: u64) -> Whole {
-    let s = sum_before(name, fd, last);
+fn by_sum(rt: &impl Errors, name: &[u8], file: &File, last: u64, number: u64) -> Whole {
+    let s = sum_before(rt, name, file, last);
     if s.at < last {
         return Whole::Unread;
     }
@@ -136,67 +142,79 @@ fn by_sum(name: &[u8], fd: i32, last: u64, number: u64) -> Whole {
 }
 
 // A report by the bytes at its end, which start at `at`.
-fn by_end(name: &[u8], fd: i32, at: u64, bytes: &[u8]) -> Whole {
+fn by_end(rt: &impl Errors, name: &[u8], file: &File, at: u64, bytes: &[u8]) -> Whole {
     let text = unended(bytes);
     let e = count_ends(text);
     let behind = e.behind;
     match number_of(part(text, behind, text.len())) {
-        Number::Is(n) => by_sum(name, fd, further(at, behind as u64), n),
+        Number::Is(n) => by_sum(rt, name, file, further(at, behind as u64), n),
         Number::Absent => Whole::Cut,
     }
 }
 
 // A report of so many bytes. Its last line is looked for where the longest one would start, and a newline before it.
-fn by_size(name: &[u8], fd: i32, size: u64) -> Whole {
+fn by_size(rt: &impl Errors, name: &[u8], file: &File, size: u64) -> Whole {
     let mut at: u64 = 0;
     if size > LAST + 1 {
         at = size - LAST - 1;
     }
-    let mut bytes = io::buffer();
-    let n = window(name, fd, at, size, &mut bytes);
+    let mut bytes = [0u8; 4096];
+    let n = window(rt, name, file, at, size, &mut bytes);
     if n == 0 {
         return Whole::Unread;
     }
-    by_end(name, fd, at, part(&bytes, 0, n))
+    by_end(rt, name, file, at, part(&bytes, 0, n))
 }
 
 // A file whose first bytes are those of a report.
-fn by_file(name: &[u8], fd: i32) -> Whole {
-    let size = libc::lseek(fd, 0, libc::SEEK_END);
-    if size < 0 {
-        tell_failed(name);
-        return Whole::Unread;
+fn by_file(rt: &impl Errors, name: &[u8], file: &File) -> Whole {
+    let mut handle = file;
+    match handle.seek(SeekFrom::End(0)) {
+        Err(e) => {
+            tell_failed(rt, name, e);
+            Whole::Unread
+        }
+        Ok(size) => by_size(rt, name, file, size),
     }
-    by_size(name, fd, place_of(size))
 }
 
 // Tells what is wrong with a file that starts with these bytes, if anything is.
-fn told(name: &[u8], start: &[u8], w: Whole) -> Whole {
+fn told(rt: &impl Errors, name: &[u8], start: &[u8], w: Whole) -> Whole {
     match w {
         Whole::Last(last) => return Whole::Last(last),
         Whole::Unread => return Whole::Unread,
-        Whole::Foreign => tell(name, b" is not a report of exsheet or checklist"),
-        Whole::Cut => tell(name, b" is not a whole report: its last line has no number"),
-        Whole::Changed(number, sum) => tell_changed(name, number, sum),
+        Whole::Foreign => tell(rt, name, b" is not a report of exsheet or checklist"),
+        Whole::Cut => tell(
+            rt,
+            name,
+            b" is not a whole report: its last line has no number",
+        ),
+        Whole::Changed(number, sum) => tell_changed(rt, name, number, sum),
     }
     if has_return(start) {
-        tell(name, b" has carriage returns: it was changed on its way");
+        tell(
+            rt,
+            name,
+            b" has carriage returns: it was changed on its way",
+        );
     }
     w
 }
 
 // Looks at a whole file, and tells what is wrong with it.
-pub fn look(name: &[u8], fd: i32) -> Whole {
-    let mut bytes = io::large_buffer();
-    let got = libc::pread(fd, &mut bytes, 0);
-    if got < 0 {
-        tell_failed(name);
-        return Whole::Unread;
+pub fn look(rt: &impl Errors, name: &[u8], file: &File) -> Whole {
+    let mut bytes = [0u8; 65536];
+    match file.read_at(&mut bytes, 0) {
+        Err(e) => {
+            tell_failed(rt, name, e);
+            Whole::Unread
+        }
+        Ok(n) => {
+            let start = part(&bytes, 0, n);
+            if is_report(start) {
+                return told(rt, name, start, by_file(rt, name, file));
+            }
+            told(rt, name, start, Whole::Foreign)
+        }
     }
-    let n = io::count(got, &bytes);
-    let start = part(&bytes, 0, n);
-    if is_report(start) {
-        return told(name, start, by_file(name, fd));
-    }
-    told(name, start, Whole::Foreign)
 }
