@@ -1,5 +1,6 @@
 // Two reports compared: the first line that differs in more than the name of a file.
 use super::differ::{Found, Place, Report, difference};
+use console::told::Errors;
 use files::file::{further, window};
 use reports::names::{Named, named_at};
 use scan::part::part;
@@ -75,14 +76,22 @@ fn passed(s: Search, p: Place, i: usize, j: usize) -> Search {
 }
 
 // The lines at a place differ. One that is a report's last line differs in more than a name.
-fn at_place(a_name: &[u8], a: Report, b_name: &[u8], b: Report, s: Search, p: Place) -> Search {
+fn at_place(
+    rt: &impl Errors,
+    a_name: &[u8],
+    a: Report<'_>,
+    b_name: &[u8],
+    b: Report<'_>,
+    s: Search,
+    p: Place,
+) -> Search {
     if a.last <= p.a || b.last <= p.b {
         return came_to(s, Outcome::Differ(p));
     }
-    let mut x = io::large_buffer();
-    let n = window(a_name, a.fd, p.a, a.last, &mut x);
-    let mut y = io::large_buffer();
-    let m = window(b_name, b.fd, p.b, b.last, &mut y);
+    let mut x = [0u8; 65536];
+    let n = window(rt, a_name, a.file, p.a, a.last, &mut x);
+    let mut y = [0u8; 65536];
+    let m = window(rt, b_name, b.file, p.b, b.last, &mut y);
     if n == 0 || m == 0 {
         return came_to(s, Outcome::Failed);
     }
@@ -93,17 +102,30 @@ fn at_place(a_name: &[u8], a: Report, b_name: &[u8], b: Report, s: Search, p: Pl
 }
 
 // Goes on to the next place where the reports differ.
-fn turn(a_name: &[u8], a: Report, b_name: &[u8], b: Report, s: Search) -> Search {
+fn turn(
+    rt: &impl Errors,
+    a_name: &[u8],
+    a: Report<'_>,
+    b_name: &[u8],
+    b: Report<'_>,
+    s: Search,
+) -> Search {
     let from = s.from;
-    match difference(a_name, a, b_name, b, from) {
+    match difference(rt, a_name, a, b_name, b, from) {
         Found::Same => nothing_more(s),
-        Found::At(p) => at_place(a_name, a, b_name, b, s, p),
+        Found::At(p) => at_place(rt, a_name, a, b_name, b, s, p),
         Found::Failed => came_to(s, Outcome::Failed),
     }
 }
 
 // Compares two reports. At most two lines differ in a name alone, so the third turn is the last.
-pub fn compare(a_name: &[u8], a: Report, b_name: &[u8], b: Report) -> Outcome {
+pub fn compare(
+    rt: &impl Errors,
+    a_name: &[u8],
+    a: Report<'_>,
+    b_name: &[u8],
+    b: Report<'_>,
+) -> Outcome {
     let start = Place {
         line: 1,
         a: 0,
@@ -117,10 +139,11 @@ pub fn compare(a_name: &[u8], a: Report, b_name: &[u8], b: Report) -> Outcome {
         more: true,
         outcome: Outcome::Failed,
     };
-    let mut turns: u64 = 3;
-    while turns > 0 && s.more {
-        s = turn(a_name, a, b_name, b, s);
-        turns -= 1;
+    for _ in 0..3 {
+        if !s.more {
+            break;
+        }
+        s = turn(rt, a_name, a, b_name, b, s);
     }
     s.outcome
 }

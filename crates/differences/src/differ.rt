@@ -1,12 +1,14 @@
 // Where two reports differ: the first line that is not the same in both, before their last lines.
+use console::told::Errors;
 use files::file::{further, window};
 use reports::text::{common, count_ends};
 use scan::part::part;
+use std::fs::File;
 
 // A report that is open, and where its last line starts.
 #[derive(Clone, Copy)]
-pub struct Report {
-    pub fd: i32,
+pub struct Report<'a> {
+    pub file: &'a File,
     pub last: u64,
 }
 
@@ -76,16 +78,23 @@ fn walked(w: Walk, bytes: &[u8]) -> Walk {
 }
 
 // Compares what one read of each report brings.
-fn turn(a_name: &[u8], a: Report, b_name: &[u8], b: Report, w: Walk) -> Walk {
+fn turn(
+    rt: &impl Errors,
+    a_name: &[u8],
+    a: Report<'_>,
+    b_name: &[u8],
+    b: Report<'_>,
+    w: Walk,
+) -> Walk {
     let i = further(w.a, w.same);
     let j = further(w.b, w.same);
     if a.last <= i || b.last <= j {
         return stopped(w, false);
     }
-    let mut x = io::large_buffer();
-    let n = window(a_name, a.fd, i, a.last, &mut x);
-    let mut y = io::large_buffer();
-    let m = window(b_name, b.fd, j, b.last, &mut y);
+    let mut x = [0u8; 65536];
+    let n = window(rt, a_name, a.file, i, a.last, &mut x);
+    let mut y = [0u8; 65536];
+    let m = window(rt, b_name, b.file, j, b.last, &mut y);
     if n == 0 || m == 0 {
         return stopped(w, true);
     }
@@ -96,10 +105,16 @@ fn turn(a_name: &[u8], a: Report, b_name: &[u8], b: Report, w: Walk) -> Walk {
     walked(w, part(&x, 0, k))
 }
 
-// Compares two reports as far as they are the same. A proved loop has to end, so it counts its turns down from a number that no run uses
-// up.
-fn walk_on(a_name: &[u8], a: Report, b_name: &[u8], b: Report, from: Place) -> Walk {
-    let mut turns = u64::MAX;
+// Compares two reports as far as they are the same. A proved loop has to end, so it counts its turns up to a number that no run
+// reaches.
+fn walk_on(
+    rt: &impl Errors,
+    a_name: &[u8],
+    a: Report<'_>,
+    b_name: &[u8],
+    b: Report<'_>,
+    from: Place,
+) -> Walk {
     let mut w = Walk {
         line: from.line,
         a: from.a,
@@ -108,16 +123,25 @@ fn walk_on(a_name: &[u8], a: Report, b_name: &[u8], b: Report, from: Place) -> W
         more: true,
         failed: false,
     };
-    while turns > 0 && w.more {
-        w = turn(a_name, a, b_name, b, w);
-        turns -= 1;
+    for _ in 0..u64::MAX {
+        if !w.more {
+            break;
+        }
+        w = turn(rt, a_name, a, b_name, b, w);
     }
     w
 }
 
 // The first line from a place on that is not the same in both.
-pub fn difference(a_name: &[u8], a: Report, b_name: &[u8], b: Report, from: Place) -> Found {
-    let w = walk_on(a_name, a, b_name, b, from);
+pub fn difference(
+    rt: &impl Errors,
+    a_name: &[u8],
+    a: Report<'_>,
+    b_name: &[u8],
+    b: Report<'_>,
+    from: Place,
+) -> Found {
+    let w = walk_on(rt, a_name, a, b_name, b, from);
     if w.failed {
         return Found::Failed;
     }
