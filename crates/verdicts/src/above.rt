@@ -1,8 +1,10 @@
 // What stands above a place of a report: whether numbered lines are the sheet's there, and the last line that is no text under another.
+use console::told::Errors;
 use files::file::{further, window};
 use reports::kind::{Kind, kind_of};
 use reports::text::line_end;
 use scan::part::part;
+use std::fs::File;
 use texts::put::put_text;
 
 // As many bytes of a line as show its kind.
@@ -88,9 +90,16 @@ fn read_to(r: Reading, at: u64, good: bool) -> Reading {
 }
 
 // Reads once.
-fn turn(name: &[u8], fd: i32, stop: u64, head: &mut [u8], r: Reading) -> Reading {
-    let mut bytes = io::large_buffer();
-    let n = window(name, fd, r.at, stop, &mut bytes);
+fn turn(
+    rt: &impl Errors,
+    name: &[u8],
+    file: &File,
+    stop: u64,
+    head: &mut [u8],
+    r: Reading,
+) -> Reading {
+    let mut bytes = [0u8; 65536];
+    let n = window(rt, name, file, r.at, stop, &mut bytes);
     if n == 0 {
         return read_to(r, r.at, false);
     }
@@ -98,10 +107,9 @@ fn turn(name: &[u8], fd: i32, stop: u64, head: &mut [u8], r: Reading) -> Reading
     read_to(t, further(r.at, n as u64), true)
 }
 
-// Reads a report up to a place. A proved loop has to end, so it counts its turns down from a number that no run uses up.
-pub fn read_above(name: &[u8], fd: i32, stop: u64) -> Reading {
+// Reads a report up to a place. A proved loop has to end, so it counts its turns up to a number that no run reaches.
+pub fn read_above(rt: &impl Errors, name: &[u8], file: &File, stop: u64) -> Reading {
     let mut head = [0u8; HEAD];
-    let mut turns = u64::MAX;
     let mut r = Reading {
         at: 0,
         held: 0,
@@ -111,9 +119,11 @@ pub fn read_above(name: &[u8], fd: i32, stop: u64) -> Reading {
             kind: Kind::Other,
         },
     };
-    while turns > 0 && r.good && r.at < stop {
-        r = turn(name, fd, stop, &mut head, r);
-        turns -= 1;
+    for _ in 0..u64::MAX {
+        if !r.good || stop <= r.at {
+            break;
+        }
+        r = turn(rt, name, file, stop, &mut head, r);
     }
     r
 }
