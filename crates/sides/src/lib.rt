@@ -2,6 +2,7 @@
 // as is shown.
 #![tactic(auto)]
 
+use console::told::Errors;
 use differences::differ::{Place, Report};
 use files::file::window;
 use reports::kind::{Kind, kind_of};
@@ -39,7 +40,14 @@ fn put_line(out: &mut [u8], at: usize, line: &[u8]) -> usize {
 }
 
 // A report's name and the line that starts at a place of it. Its last line, the number, is no line to compare.
-fn put_side(out: &mut [u8], at: usize, name: &[u8], r: Report, start: u64) -> Side {
+fn put_side(
+    rt: &impl Errors,
+    out: &mut [u8],
+    at: usize,
+    name: &[u8],
+    r: Report<'_>,
+    start: u64,
+) -> Side {
     let i = put_text(out, at, name);
     let j = put_text(out, i, b": ");
     if r.last <= start {
@@ -49,8 +57,8 @@ fn put_side(out: &mut [u8], at: usize, name: &[u8], r: Report, start: u64) -> Si
             good: true,
         };
     }
-    let mut bytes = io::large_buffer();
-    let n = window(name, r.fd, start, r.last, &mut bytes);
+    let mut bytes = [0u8; 65536];
+    let n = window(rt, name, r.file, start, r.last, &mut bytes);
     let line = first_line(part(&bytes, 0, n));
     Side {
         at: put_line(out, j, line),
@@ -68,16 +76,17 @@ fn put_place(out: &mut [u8], line: u64) -> usize {
 
 // The line at a place, as it stands in each report.
 pub fn put_both(
+    rt: &impl Errors,
     out: &mut [u8],
     a_name: &[u8],
-    a: Report,
+    a: Report<'_>,
     b_name: &[u8],
-    b: Report,
+    b: Report<'_>,
     p: Place,
 ) -> Both {
     let i = put_place(out, p.line);
-    let x = put_side(out, i, a_name, a, p.a);
-    let y = put_side(out, x.at, b_name, b, p.b);
+    let x = put_side(rt, out, i, a_name, a, p.a);
+    let y = put_side(rt, out, x.at, b_name, b, p.b);
     let j = x.kind;
     let k = y.kind;
     Both {
