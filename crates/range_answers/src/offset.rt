@@ -26,7 +26,7 @@ fn with_digit(o: OffsetRead, b: u8) -> OffsetRead {
     OffsetRead {
         previous: o.previous,
         digits: true,
-        count: std::num::wrapping_add_u64(times_ten(o.count), digit(b)),
+        count: times_ten(o.count).wrapping_add(digit(b)),
     }
 }
 
@@ -35,7 +35,7 @@ fn signs(s: &[u8]) -> u64 {
     let mut n: u64 = 0;
     let mut i: usize = 0;
     while i < s.len() {
-        n = std::num::wrapping_add_u64(n, if is_sign(s[i]) { 1 } else { 0 });
+        n = n.wrapping_add(if is_sign(s[i]) { 1 } else { 0 });
         i += 1;
     }
     n
