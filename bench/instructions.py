@@ -1,4 +1,4 @@
-"""Counts instructions of target/bin/measure; called by bench/instructions."""
+"""Counts instructions of crates/measure/out/measure; called by bench/instructions."""
 import os
 import re
 import subprocess

@@ -1,7 +1,8 @@
 # What the scripts of the console's programs share: where they stand, usage, building what is not built, input that can be read twice, and
 # the status. A script sets `program`, `here` (the folder that it stands in, links followed) and `usage`, and reads this file.
-# A Rattle program has no exit status: it hands its verdict to its script, as a digit on descriptor 3. 0 is that all was done and nothing
-# refused, 1 that something was refused or differs, 2 that the program could not do its work. Where no verdict comes the status is 2.
+# A program hands its verdict to its script as a digit, in the file that PAGYOLINT_VERDICT names, which is descriptor 3. 0 is that all was
+# done and nothing refused, 1 that something was refused or differs, 2 that the program could not do its work. Where no verdict comes the
+# status is 2.
 
 if [ -e "$here/console/start.sh" ]; then
     checkout=$here
@@ -60,20 +61,24 @@ sources() {
 # Passes on which crate is proved, of how many, and keeps all that was said.
 progress() {
     count=0
+    crate=
     while IFS= read -r line; do
         printf '%s\n' "$line" >&8
         case $line in
-        'rt: '*' proved ('*)
-            count=$((count + 1))
-            line=${line#rt: }
-            say "  $count of $1: $line"
+        'crate '*': modules '*)
+            crate=${line#crate }
+            crate=${crate%%:*}
             ;;
-        'rt: '*'NOT PROVED'* | 'rt: '*FAILED*) say "  ${line#rt: }" ;;
+        'logic=proved'*)
+            count=$((count + 1))
+            say "  $count of $1: $crate proved"
+            ;;
+        'logic='*) say "  $crate NOT PROVED" ;;
         esac
     done
 }
 
-# Proves and builds a program, with the checkout's lock held.
+# Proves and builds a program, with the checkout's lock held. `rt run` runs it too, on nothing.
 build() {
     log=$checkout/target/console/$program.log
     sum=$1
@@ -84,14 +89,18 @@ build() {
     # How many crates are told: the program's own, and of those that it depends on the ones that are the checkout's.
     crates=$(awk -v name="$program" -F: '/^[a-z]/ { needs[$1] = $2 } END { for (i = split(needs[name], all, " "); i > 0; i--) n += all[i] in needs; print n + 1 }' "$checkout/crates.txt")
     say "proving and building the program from its sources: $2."
-    say "this is done once for these sources, and takes some ten minutes on two cores where nothing is proved yet; $log has all that is said"
+    say "this is done once for these sources, and takes many minutes where nothing is proved yet; $log has all that is said"
     status=$(
         exec 7>&1 8>"$log"
-        { (cd "$checkout" && rt check "$program" 2>&1) && echo 0 >&7 || echo 1 >&7; } | progress "$crates" 7>&-
+        { (cd "$checkout/crates/$program" && rt run </dev/null 2>&1) && echo 0 >&7 || echo 1 >&7; } | progress "$crates" 7>&-
     )
     if [ "$status" != 0 ]; then
         grep -v -e ': proved$' -e '^logic' -e '^library' "$log" | tail -n 40 >&2
         fail "the program could not be built"
+    fi
+    # The program is put in its place in one step, since an older one may be running there.
+    if ! { mkdir -p "$programs" && cp "$checkout/crates/$program/out/$program" "$programs/$program.new" && mv -f "$programs/$program.new" "$programs/$program"; }; then
+        fail "the program was built and could not be put into $programs"
     fi
     printf '%s\n' "$sum" >"$checkout/target/console/$program.built"
 }
@@ -124,6 +133,7 @@ ready() {
 }
 
 room=
+links=
 trap '[ -z "$room" ] || rm -rf "$room"' EXIT
 trap 'exit 129' HUP
 trap 'exit 130' INT
@@ -134,8 +144,26 @@ input_open() {
     (exec 5<&0) 2>/dev/null || fail "standard input is closed"
 }
 
+# The folder for what is kept while the script runs, here $1.
+make_room() {
+    [ -z "$room" ] || return 0
+    room=$(mktemp -d "${TMPDIR:-/tmp}/pagyolint.XXXXXX" 2>/dev/null) || fail "no folder can be made in ${TMPDIR:-/tmp} to keep $1 in"
+}
+
+# Whether a path is UTF-8.
+is_text() {
+    (
+        LC_ALL=C
+        export LC_ALL
+        case $1 in
+        *[!\ -~]*) printf %s "$1" | iconv -f UTF-8 -t UTF-8 >/dev/null 2>&1 ;;
+        esac
+    )
+}
+
 # Input as a file that can be read twice: `path`, and `name`, which is empty for standard input. A pipe or a device is read to its end
-# first; a regular file, a folder and what is not there are left to the program.
+# first; a regular file, a folder and what is not there are left to the program. It opens only paths that are UTF-8, so for another path a
+# link is made.
 input() {
     path=$1
     name=$1
@@ -147,11 +175,16 @@ input() {
         fi
     elif [ -f "$1" ] || [ -d "$1" ] || [ ! -e "$1" ]; then
         case $path in -*) path=./$path ;; esac
+        if ! is_text "$path"; then
+            make_room "$2"
+            case $path in /*) ;; *) path=$PWD/$path ;; esac
+            links=${links}x
+            ln -s "$path" "$room/link$links" || exit 2
+            path=$room/link$links
+        fi
         return
     fi
-    if [ -z "$room" ]; then
-        room=$(mktemp -d "${TMPDIR:-/tmp}/pagyolint.XXXXXX" 2>/dev/null) || fail "no folder can be made in ${TMPDIR:-/tmp} to keep $2 in"
-    fi
+    make_room "$2"
     path=$(mktemp "$room/XXXXXX") || exit 2
     if [ "$1" = - ]; then
         said=$(cat 2>&1 >"$path") || fail "standard input: ${said##*: }"
@@ -166,7 +199,7 @@ run() {
     # A reader that goes away is told like any other output that fails.
     trap '' PIPE
     exec 4>&1
-    verdict=$("$programs/$program" "$@" 3>&1 >&4 4>&-)
+    verdict=$(PAGYOLINT_VERDICT=/dev/fd/3 "$programs/$program" "$@" 3>&1 >&4 4>&-)
     ended=$?
     case $ended:$verdict in
     0:[012]) exit "$verdict" ;;
