@@ -7,12 +7,14 @@ use super::alias::{Added, alias_line};
 use calls::run_line;
 use console::file::{Sum, ended, no_sum, summed, tell_of};
 use console::report::{Report, flush_full, up_to};
+use console::told::Errors;
 use limits::{LINE, STORE};
 use replies::{put_alias_told, put_line_told};
 use run::reply::LineReply;
 use scan::classes::{Kind, classes};
 use scan::part::{byte_at, part};
 use scan::run::run_end;
+use std::io::Read;
 use tally::{COUNTS, tallied};
 use texts::put::put_text;
 
@@ -59,17 +61,24 @@ fn line_end(s: &[u8], at: usize, classes: &[u8; 256]) -> usize
 }
 
 fn next(n: u64) -> u64 {
-    std::num::wrapping_add_u64(n, 1)
+    n.wrapping_add(1)
 }
 
 // One line more is told, and the report then ends at `at`.
-fn with_line(s: Sheet, out: &[u8], number: u64, at: usize, returned: bool) -> Sheet {
+fn with_line(
+    rt: &(impl Print + Errors),
+    s: Sheet,
+    out: &[u8],
+    number: u64,
+    at: usize,
+    returned: bool,
+) -> Sheet {
     let report = s.report;
     let mut t = s;
     t.number = number;
     t.returns = returned;
     t.held = 0;
-    t.report = flush_full(out, up_to(report, at));
+    t.report = flush_full(rt, out, up_to(report, at));
     t
 }
 
@@ -84,6 +93,7 @@ fn looked_at(s: Sheet, added: Added) -> Sheet {
 
 // A line of an alias file is told, if it was refused.
 fn with_alias(
+    rt: &(impl Print + Errors),
     line: &[u8],
     counts: &mut [u64; COUNTS],
     out: &mut [u8],
@@ -102,12 +112,13 @@ fn with_alias(
     };
     let kind = [added.kind];
     tallied(counts, reply, &kind);
-    let t = with_line(s, out, number, at, s.returns);
+    let t = with_line(rt, s, out, number, at, s.returns);
     looked_at(t, added)
 }
 
 // Adds the alias of a line.
 fn alias_told(
+    rt: &(impl Print + Errors),
     session: &mut [u8],
     line: &[u8],
     counts: &mut [u64; COUNTS],
@@ -115,12 +126,12 @@ fn alias_told(
     s: Sheet,
 ) -> Sheet {
     let added = alias_line(session, line);
-    with_alias(line, counts, out, s, added)
+    with_alias(rt, line, counts, out, s, added)
 }
 
 // Whether a line ends in a carriage return, as lines of other systems' files do, or one before it did.
 fn returns(before: bool, line: &[u8]) -> bool {
-    before || byte_at(line, std::num::wrapping_sub_usize(line.len(), 1)) == 0x0D
+    before || byte_at(line, line.len().wrapping_sub(1)) == 0x0D
 }
 
 // Runs a line, counts it, and tells from `at` on what it came to; a refused one is shown.
@@ -141,6 +152,7 @@ fn line_told(
 
 // The line that is held.
 fn held_told(
+    rt: &(impl Print + Errors),
     session: &mut [u8],
     line: &[u8],
     store: &mut [u8],
@@ -150,12 +162,12 @@ fn held_told(
 ) -> Sheet {
     let text = part(line, 0, s.held);
     if s.aliases {
-        return alias_told(session, text, counts, out, s);
+        return alias_told(rt, session, text, counts, out, s);
     }
     let number = next(s.number);
     let report = s.report;
     let at = line_told(session, text, store, counts, out, number, report.at);
-    with_line(s, out, number, at, returns(s.returns, text))
+    with_line(rt, s, out, number, at, returns(s.returns, text))
 }
 
 // With so many bytes held.
@@ -167,6 +179,7 @@ fn holding(s: Sheet, held: usize) -> Sheet {
 
 // Bytes of a line, and whether it ends there: they are held behind those that are. A line that is too long keeps as many as show it.
 fn taken(
+    rt: &(impl Print + Errors),
     session: &mut [u8],
     line: &mut [u8],
     store: &mut [u8],
@@ -179,7 +192,7 @@ fn taken(
     let held = put_text(line, s.held, text);
     let t = holding(s, held);
     if ends {
-        return held_told(session, line, store, counts, out, t);
+        return held_told(rt, session, line, store, counts, out, t);
     }
     t
 }
@@ -187,6 +200,7 @@ fn taken(
 // Goes through bytes that were read. A line of a sheet that stands whole in them is run where it lies, and the sheet goes on in place; the
 // bytes of others are held.
 fn through(
+    rt: &(impl Print + Errors),
     session: &mut [u8],
     line: &mut [u8],
     store: &mut [u8],
@@ -209,16 +223,27 @@ fn through(
             let at = line_told(session, text, store, counts, out, number, report.at);
             t.number = number;
             t.returns = returns(t.returns, text);
-            t.report = flush_full(out, up_to(report, at));
+            t.report = flush_full(rt, out, up_to(report, at));
             continue;
         }
-        t = taken(session, line, store, counts, out, t, text, e < bytes.len());
+        t = taken(
+            rt,
+            session,
+            line,
+            store,
+            counts,
+            out,
+            t,
+            text,
+            e < bytes.len(),
+        );
     }
     t
 }
 
 // Nothing is left to read; a last line may be held.
 fn last(
+    rt: &(impl Print + Errors),
     session: &mut [u8],
     line: &[u8],
     store: &mut [u8],
@@ -227,7 +252,7 @@ fn last(
     s: Sheet,
 ) -> Sheet {
     if s.held > 0 {
-        let t = held_told(session, line, store, counts, out, s);
+        let t = held_told(rt, session, line, store, counts, out, s);
         return stopped(t, true);
     }
     stopped(s, true)
@@ -244,6 +269,7 @@ fn while_written(s: Sheet) -> Sheet {
 
 // Bytes that were read: they are added to the sum, and their lines are told.
 fn with_bytes(
+    rt: &(impl Print + Errors),
     session: &mut [u8],
     line: &mut [u8],
     store: &mut [u8],
@@ -255,13 +281,14 @@ fn with_bytes(
     let sum = s.sum;
     let mut t = s;
     t.sum = summed(sum, bytes);
-    let u = through(session, line, store, counts, out, t, bytes);
+    let u = through(rt, session, line, store, counts, out, t, bytes);
     while_written(u)
 }
 
 // Reads once. What cannot be read is told.
-fn turn(
-    fd: i32,
+fn turn<F: Read>(
+    rt: &(impl Print + Errors),
+    file: &mut F,
     name: &[u8],
     session: &mut [u8],
     line: &mut [u8],
@@ -270,25 +297,24 @@ fn turn(
     out: &mut [u8],
     s: Sheet,
 ) -> Sheet {
-    let mut bytes = io::large_buffer();
-    let got = libc::read(fd, &mut bytes);
-    if got < 0 {
-        let report = s.report;
-        let p = report.program;
-        tell_of(p, name);
-        return stopped(s, false);
+    let mut bytes = [0u8; 65536];
+    match file.read(&mut bytes) {
+        Err(e) => {
+            let report = s.report;
+            let p = report.program;
+            tell_of(rt, p, name, e);
+            stopped(s, false)
+        }
+        Ok(0) => last(rt, session, line, store, counts, out, s),
+        Ok(n) => with_bytes(rt, session, line, store, counts, out, s, part(&bytes, 0, n)),
     }
-    let n = io::count(got, &bytes);
-    if n == 0 {
-        return last(session, line, store, counts, out, s);
-    }
-    with_bytes(session, line, store, counts, out, s, part(&bytes, 0, n))
 }
 
 // Runs a whole sheet, whose name is for messages, and counts its lines. The store is long enough for any line that is not too long. A proved
-// loop has to end, so it counts its turns down from a number that no run uses up.
-pub fn run(
-    fd: i32,
+// loop has to end, so it counts its turns up to a number that no run reaches.
+pub fn run<F: Read>(
+    rt: &(impl Print + Errors),
+    file: &mut F,
     name: &[u8],
     session: &mut [u8],
     counts: &mut [u64; COUNTS],
@@ -297,11 +323,14 @@ pub fn run(
 ) -> Sheet {
     let mut line = [0u8; LINE + 1];
     let mut store = [0u8; STORE + 1];
-    let mut turns = u64::MAX;
     let mut t = s;
-    while turns > 0 && t.sum.more {
-        t = turn(fd, name, session, &mut line, &mut store, counts, out, t);
-        turns -= 1;
+    for _ in 0..u64::MAX {
+        if !t.sum.more {
+            break;
+        }
+        t = turn(
+            rt, file, name, session, &mut line, &mut store, counts, out, t,
+        );
     }
     t
 }
