@@ -31,7 +31,7 @@ struct Finding {
 }
 
 fn plus(a: usize, b: usize) -> usize {
-    std::num::wrapping_add_usize(a, b)
+    a.wrapping_add(b)
 }
 
 fn kind_of(c: Change) -> u8 {

@@ -29,7 +29,7 @@ fn answer(line: &[u8], store: &mut [u8]) -> LineReply {
 fn agrees(line: &[u8], reply: LineReply, written: &[u8]) -> bool {
     let mut store = [0u8; STORE + 1];
     let other = answer(line, &mut store);
-    other.refusal == reply.refusal && check::same(part(&store, 0, other.count as usize), written)
+    other.refusal == reply.refusal && part(&store, 0, other.count as usize) == written
 }
 
 fn put_verdict(out: &mut [u8], at: usize, agreed: bool) -> usize {
@@ -79,7 +79,7 @@ pub fn put_told(out: &mut [u8], at: usize, line: &[u8], p: Prefixes, number: u64
     let reply = answer(typed, &mut store);
     let written = part(&store, 0, reply.count as usize);
     let agreed = agrees_with_last(line, p, order, reply, written);
-    let from_one = std::num::wrapping_add_u64(number, 1);
+    let from_one = number.wrapping_add(1);
     Told {
         at: put_order(out, at, from_one, reply, written, agreed, typed),
         agrees: agreed,
