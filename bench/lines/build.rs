@@ -16,7 +16,7 @@ fn main() {
 
     assert!(
         archive.is_file(),
-        "{} is missing: run `rt staticlib entries` in the repository's top folder",
+        "{} is missing: run `tests/archive` in the repository's top folder",
         archive.display()
     );
     println!("cargo:rerun-if-changed={}", archive.display());

@@ -13,7 +13,7 @@ fn main() {
         eprintln!(
             "There is no target/staticlib/libentries.a, the archive of the proved functions."
         );
-        eprintln!("Run `rt staticlib entries` in the repository's top folder, and cargo again.");
+        eprintln!("Run `tests/archive` in the repository's top folder, and cargo again.");
         eprintln!("It was looked for at {}", archive.display());
         std::process::exit(1);
     }

@@ -1,4 +1,5 @@
-"""What crates/limits says once, and the words that crates/reasons gives each refusal: for the tests that hold other files to it."""
+"""What crates/limits says once, the words that crates/reasons gives each refusal, and the sentences of crates/sentences: for the tests that hold
+other files to them."""
 import pathlib
 import re
 
@@ -28,7 +29,7 @@ def defined(path):
 
 def numbers():
     """Each refusal and its number, in the order of the definition."""
-    return [(name, int(number)) for name, number in re.findall(r'^refusalNo Refusal\.(\w+) = (\d+)$', (CRATES / 'limits/specs/Refusals.antt').read_text(), re.M)]
+    return [(name, int(number)) for name, number in re.findall(r'^refusal_no Refusal\.(\w+) = (\d+)$', (CRATES / 'limits/specs/Refusals.antt').read_text(), re.M)]
 
 
 def words():
@@ -40,3 +41,9 @@ def words():
         parts = re.findall(r'b"([^"]*)"|\b([A-Z_]{2,})\b', bodies.get(call.split('(')[0], call))
         said[name] = ''.join(str(known[limit]) if limit else literal for literal, limit in parts)
     return said
+
+
+def sentences():
+    """The sentence of each refusal, as it goes over C."""
+    text = (CRATES / 'sentences/specs/Sentences.antt').read_text()
+    return dict(re.findall(r'^sentence_of Refusal\.(\w+) = ascii "([^"]*)"$', text, re.M))

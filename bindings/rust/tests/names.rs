@@ -25,7 +25,11 @@ fn upper(name: &str) -> String {
 #[test]
 fn refusals_are_those_of_the_header() {
     let header = text("include/pagyolint.h");
-    let declared: BTreeMap<String, u64> = header
+    let cases = header.split("enum pagyolint_refusal {").nth(1).unwrap();
+    let declared: BTreeMap<String, u64> = cases
+        .split('}')
+        .next()
+        .unwrap()
         .lines()
         .filter_map(|line| line.trim().strip_prefix("PAGYOLINT_")?.split_once(" = "))
         .filter(|(name, _)| *name != "ACCEPTED")
