@@ -2,50 +2,54 @@
 // past the last.
 #![tactic(auto)]
 
-use libc::{STDIN_FILENO, STDOUT_FILENO};
 use limits::LINE;
 use scan::part::part;
 use scanner::token::{Position, Token, TokenKind, step};
+use std::io;
+use std::io::Read;
 
-fn print_kind(k: TokenKind) {
+fn name_of(k: TokenKind) -> &'static str {
     match k {
-        TokenKind::Space => io::write_all(STDOUT_FILENO, b"space"),
-        TokenKind::Colon => io::write_all(STDOUT_FILENO, b"colon"),
-        TokenKind::Range => io::write_all(STDOUT_FILENO, b"range"),
-        TokenKind::Word => io::write_all(STDOUT_FILENO, b"word"),
-        TokenKind::Bang => io::write_all(STDOUT_FILENO, b"bang"),
-        TokenKind::Text => io::write_all(STDOUT_FILENO, b"text"),
-        TokenKind::Quoted => io::write_all(STDOUT_FILENO, b"quoted"),
-        TokenKind::Newline => io::write_all(STDOUT_FILENO, b"newline"),
-        TokenKind::Unlisted => io::write_all(STDOUT_FILENO, b"unlisted"),
-        TokenKind::Left => io::write_all(STDOUT_FILENO, b"left"),
-        TokenKind::End => io::write_all(STDOUT_FILENO, b"end"),
-    };
-}
-
-fn print_token(t: Token) {
-    let kind = t.kind;
-    print_kind(kind);
-    io::write_all(STDOUT_FILENO, b" ");
-    io::print_decimal(STDOUT_FILENO, t.start as u64);
-    io::write_all(STDOUT_FILENO, b" ");
-    io::print_decimal(STDOUT_FILENO, t.stop as u64);
-    io::write_all(STDOUT_FILENO, b"\n");
-}
-
-fn print_tokens(line: &[u8]) {
-    let mut here = step(line, Position::Lead(0));
-    while here.token.start < line.len() {
-        let t = here.token;
-        print_token(t);
-        let position = here.position;
-        here = step(line, position);
+        TokenKind::Space => "space",
+        TokenKind::Colon => "colon",
+        TokenKind::Range => "range",
+        TokenKind::Word => "word",
+        TokenKind::Bang => "bang",
+        TokenKind::Text => "text",
+        TokenKind::Quoted => "quoted",
+        TokenKind::Newline => "newline",
+        TokenKind::Unlisted => "unlisted",
+        TokenKind::Left => "left",
+        TokenKind::End => "end",
     }
 }
 
+fn print_kind(rt: &impl Print, k: TokenKind) -> io::Result<()> {
+    rt.print(name_of(k))
+}
+
+fn print_token(rt: &impl Print, t: Token) -> io::Result<()> {
+    let kind = t.kind;
+    print_kind(rt, kind)?;
+    println!(rt; " {} {}", t.start, t.stop)
+}
+
+fn print_tokens(rt: &impl Print, line: &[u8]) -> io::Result<()> {
+    let mut here = step(line, Position::Lead(0));
+    while here.token.start < line.len() {
+        let t = here.token;
+        print_token(rt, t)?;
+        let position = here.position;
+        here = step(line, position);
+    }
+    Ok(())
+}
+
 // A line has at most 1,024 bytes: what comes behind them is not read.
-fn main() {
+fn main(rt: HostRuntime) -> io::Result<()> {
     let mut line = [0u8; LINE];
-    let n = io::read_full(STDIN_FILENO, &mut line);
-    print_tokens(part(&line, 0, n));
+    let mut input = rt.reader().take(LINE as u64);
+    let mut room = &mut line[..];
+    let n = io::copy(&mut input, &mut room)? as usize;
+    print_tokens(&rt, part(&line, 0, n))
 }
