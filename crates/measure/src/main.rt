@@ -4,11 +4,13 @@
 
 use layout::bytes::sound;
 use layout::places::SESSION;
-use libc::{STDIN_FILENO, STDOUT_FILENO};
 use limits::{LINE, STORE};
 use reading::alone::{FilenamesReply, OptionsReply, RangeReply, StringsReply};
 use reading::line::CommandRead;
+use scan::part::part;
 use session::lent::{fresh_in, line_in};
+use std::io;
+use std::io::Read;
 use words::words::Named;
 
 fn by_utf8(text: &[u8]) -> u64 {
@@ -109,13 +111,14 @@ fn measured(which: u8, text: &[u8]) -> u64 {
     }
 }
 
-fn main() {
+fn main(rt: HostRuntime) -> io::Result<()> {
     let mut buffer = [0u8; LINE + 1];
-    let n = io::read_full(STDIN_FILENO, &mut buffer);
+    let mut input = rt.reader().take(LINE as u64 + 1);
+    let mut room = &mut buffer[..];
+    let n = io::copy(&mut input, &mut room)? as usize;
     let which = buffer[0];
     if 1 <= n {
-        let text = &buffer[1..n];
-        io::print_decimal(STDOUT_FILENO, measured(which, text));
-        io::write_all(STDOUT_FILENO, b"\n");
+        println!(rt; "{}", measured(which, part(&buffer, 1, n)))?;
     }
+    Ok(())
 }
