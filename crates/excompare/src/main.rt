@@ -1,17 +1,21 @@
 // Compares two reports of the console's programs: shows the first line that differs, and says in one sentence what that means. The
-// arguments are the file of a report and what to call it, twice. The verdict is also a digit on descriptor 3, for the script that starts
-// the program: 0 if the reports are the same, 1 if they differ, 2 if they could not be compared or the answer not be written.
+// arguments are the file of a report and what to call it, twice. The verdict is also a digit in the file that the script which
+// starts the program names: 0 if the reports are the same, 1 if they differ, 2 if they could not be compared or the answer not be written.
 #![tactic(auto)]
 
 mod show;
 
-use console::told::{FAILED, hand_over};
+use console::file::open_read;
+use console::report::settled;
+use console::told::{Errors, FAILED, hand_over};
 use differences::differ::Report;
 use files::tell::{tell_argument, tell_failed};
 use files::whole::{Whole, look};
-use libc::STDOUT_FILENO;
 use scan::part::part;
 use show::{Shown, failed, show};
+use std::fs::File;
+use std::io;
+use std::rt::{Env, Files};
 
 // An argument in a buffer, if it fits: what is wrong is told.
 #[derive(Clone, Copy)]
@@ -20,84 +24,122 @@ struct Argument {
     good: bool,
 }
 
+// A report that is open, and where its last line starts.
+#[derive(Drop)]
+struct OpenReport {
+    file: File,
+    last: u64,
+}
+
 // Takes an argument.
-fn given(i: usize, into: &mut [u8]) -> Argument {
-    let n = os::arg(i, into);
-    if os::errno() != 0 {
-        tell_argument(i);
-        return Argument { n: 0, good: false };
+fn given(rt: &(impl Env + Errors), i: usize, into: &mut [u8]) -> Argument {
+    match rt.arg(i, into) {
+        Ok(n) => Argument { n: n, good: true },
+        Err(e) => {
+            tell_argument(rt, i, e);
+            Argument { n: 0, good: false }
+        }
     }
-    Argument { n: n, good: true }
 }
 
-// Opens the report that an argument names: a negative number if it cannot be opened, which is told.
-fn open(i: usize, name: &[u8]) -> i32 {
-    let mut path = io::buffer();
-    let g = given(i, &mut path);
+// Opens the report that an argument names: none if it cannot be opened, which is told.
+fn open<R: Env + Errors + Files<File = File>>(rt: &R, i: usize, name: &[u8]) -> Option<File> {
+    let mut path = [0u8; 4096];
+    let g = given(rt, i, &mut path);
     if !g.good {
-        return -1;
+        return None;
     }
-    let fd = os::open_read(part(&path, 0, g.n));
-    if fd < 0 {
-        tell_failed(name);
-    }
-    fd
-}
-
-// Opens a report and looks at it.
-fn opened(i: usize, name: &[u8]) -> Report {
-    let fd = open(i, name);
-    if fd < 0 {
-        return Report { fd: fd, last: 0 };
-    }
-    match look(name, fd) {
-        Whole::Last(last) => Report { fd: fd, last: last },
-        _ => Report { fd: fd, last: 0 },
+    match open_read(rt, part(&path, 0, g.n)) {
+        Ok(file) => Some(file),
+        Err(e) => {
+            tell_failed(rt, name, e);
+            None
+        }
     }
 }
 
-// Writes the answer, and closes standard output. The verdict is then another if one of them fails, which is told.
-fn written(out: &[u8], s: Shown) -> u64 {
-    let sent = io::write_all(STDOUT_FILENO, part(out, 0, s.at));
-    if !sent {
-        tell_failed(b"standard output");
+// Opens a report and looks at it: none if it is not whole, which is told.
+fn opened<R: Env + Errors + Files<File = File>>(
+    rt: &R,
+    i: usize,
+    name: &[u8],
+) -> Option<OpenReport> {
+    let file = open(rt, i, name)?;
+    match look(rt, name, &file) {
+        Whole::Last(last) if last > 0 => Some(OpenReport {
+            file: file,
+            last: last,
+        }),
+        _ => None,
     }
-    if libc::close(STDOUT_FILENO) < 0 {
-        tell_failed(b"standard output");
-        return FAILED;
+}
+
+// Writes a text to standard output, and all that the system keeps back of it.
+fn written_out(rt: &(impl Print + Files), text: &[u8]) -> io::Result<()> {
+    rt.write_all(text)?;
+    settled(rt)
+}
+
+// Writes the answer. The verdict is then another if that fails, which is told.
+fn written(rt: &(impl Errors + Files + Print), out: &[u8], s: Shown) -> u64 {
+    match written_out(rt, part(out, 0, s.at)) {
+        Ok(()) => s.verdict,
+        Err(e) => {
+            tell_failed(rt, b"standard output", e);
+            FAILED
+        }
     }
-    if sent { s.verdict } else { FAILED }
+}
+
+// A report that is open, as it is compared.
+fn report_of(r: &OpenReport) -> Report<'_> {
+    Report {
+        file: &r.file,
+        last: r.last,
+    }
 }
 
 // Compares the reports, if both are whole.
-fn answered(out: &mut [u8], a_name: &[u8], a: Report, b_name: &[u8], b: Report) -> Shown {
-    if a.last == 0 || b.last == 0 {
-        return failed();
+fn answered(
+    rt: &impl Errors,
+    out: &mut [u8],
+    a_name: &[u8],
+    a: &Option<OpenReport>,
+    b_name: &[u8],
+    b: &Option<OpenReport>,
+) -> Shown {
+    match (a, b) {
+        (Some(x), Some(y)) => show(rt, out, a_name, report_of(x), b_name, report_of(y)),
+        _ => failed(),
     }
-    show(out, a_name, a, b_name, b)
 }
 
 // Looks at both reports, compares them, and writes the answer.
-fn compared(a_name: &[u8], b_name: &[u8]) -> u64 {
-    let a = opened(1, a_name);
-    let b = opened(3, b_name);
-    let mut out = io::large_buffer();
-    let s = answered(&mut out, a_name, a, b_name, b);
-    written(&out, s)
+fn compared<R: Env + Errors + Files<File = File> + Print>(
+    rt: &R,
+    a_name: &[u8],
+    b_name: &[u8],
+) -> u64 {
+    let a = opened(rt, 1, a_name);
+    let b = opened(rt, 3, b_name);
+    let mut out = [0u8; 65536];
+    let s = answered(rt, &mut out, a_name, &a, b_name, &b);
+    written(rt, &out, s)
 }
 
 // The verdict.
-fn verdict() -> u64 {
-    let mut a_name = io::buffer();
-    let a = given(2, &mut a_name);
-    let mut b_name = io::buffer();
-    let b = given(4, &mut b_name);
+fn verdict<R: Env + Errors + Files<File = File> + Print>(rt: &R) -> u64 {
+    let mut a_name = [0u8; 4096];
+    let a = given(rt, 2, &mut a_name);
+    let mut b_name = [0u8; 4096];
+    let b = given(rt, 4, &mut b_name);
     if !a.good || !b.good {
         return FAILED;
     }
-    compared(part(&a_name, 0, a.n), part(&b_name, 0, b.n))
+    compared(rt, part(&a_name, 0, a.n), part(&b_name, 0, b.n))
 }
 
-fn main() {
-    hand_over(verdict());
+fn main(rt: HostRuntime) {
+    let v = verdict(&rt);
+    hand_over(&rt, v);
 }

@@ -1,5 +1,5 @@
 // What is shown of two reports, by what they come to: the first line that differs, and the verdict.
-use console::told::{DONE, FAILED, REFUSED};
+use console::told::{DONE, Errors, FAILED, REFUSED};
 use differences::compare::{Outcome, compare};
 use differences::differ::{Place, Report};
 use sides::put_both;
@@ -36,15 +36,16 @@ fn show_equal(out: &mut [u8]) -> Shown {
 
 // The reports differ at a place.
 fn show_differ(
+    rt: &impl Errors,
     out: &mut [u8],
     a_name: &[u8],
-    a: Report,
+    a: Report<'_>,
     b_name: &[u8],
-    b: Report,
+    b: Report<'_>,
     p: Place,
 ) -> Shown {
-    let x = put_both(out, a_name, a, b_name, b, p);
-    let r = read_above(a_name, a.fd, p.a);
+    let x = put_both(rt, out, a_name, a, b_name, b, p);
+    let r = read_above(rt, a_name, a.file, p.a);
     if !x.good || !r.good {
         return failed();
     }
@@ -59,15 +60,16 @@ fn show_differ(
 
 // The reports differ in names alone, first at a place: what they tell is the same.
 fn show_names(
+    rt: &impl Errors,
     out: &mut [u8],
     a_name: &[u8],
-    a: Report,
+    a: Report<'_>,
     b_name: &[u8],
-    b: Report,
+    b: Report<'_>,
     p: Place,
     v: Verdict,
 ) -> Shown {
-    let x = put_both(out, a_name, a, b_name, b, p);
+    let x = put_both(rt, out, a_name, a, b_name, b, p);
     if !x.good {
         return failed();
     }
@@ -78,11 +80,19 @@ fn show_names(
 }
 
 // Compares two reports, and puts what is to be shown of them into a buffer.
-pub fn show(out: &mut [u8], a_name: &[u8], a: Report, b_name: &[u8], b: Report) -> Shown {
-    match compare(a_name, a, b_name, b) {
+pub fn show(
+    rt: &impl Errors,
+    out: &mut [u8],
+    a_name: &[u8],
+    a: Report<'_>,
+    b_name: &[u8],
+    b: Report<'_>,
+) -> Shown {
+    match compare(rt, a_name, a, b_name, b) {
         Outcome::Equal => show_equal(out),
         Outcome::Names(p, sheet, aliases) => {
             show_names(
+                rt,
                 out,
                 a_name,
                 a,
@@ -92,7 +102,7 @@ pub fn show(out: &mut [u8], a_name: &[u8], a: Report, b_name: &[u8], b: Report) 
                 verdict_on_names(sheet, aliases),
             )
         }
-        Outcome::Differ(p) => show_differ(out, a_name, a, b_name, b, p),
+        Outcome::Differ(p) => show_differ(rt, out, a_name, a, b_name, b, p),
         Outcome::Failed => failed(),
     }
 }
