@@ -161,9 +161,20 @@ is_text() {
     )
 }
 
+# The programs open only paths that are UTF-8: another `path`, of $1, becomes that of a link to it.
+text_path() {
+    if is_text "$path"; then
+        return
+    fi
+    make_room "$1"
+    case $path in /*) ;; *) path=$PWD/$path ;; esac
+    links=${links}x
+    ln -s "$path" "$room/link$links" || exit 2
+    path=$room/link$links
+}
+
 # Input as a file that can be read twice: `path`, and `name`, which is empty for standard input. A pipe or a device is read to its end
-# first; a regular file, a folder and what is not there are left to the program. It opens only paths that are UTF-8, so for another path a
-# link is made.
+# first; a regular file, a folder and what is not there are left to the program.
 input() {
     path=$1
     name=$1
@@ -175,13 +186,7 @@ input() {
         fi
     elif [ -f "$1" ] || [ -d "$1" ] || [ ! -e "$1" ]; then
         case $path in -*) path=./$path ;; esac
-        if ! is_text "$path"; then
-            make_room "$2"
-            case $path in /*) ;; *) path=$PWD/$path ;; esac
-            links=${links}x
-            ln -s "$path" "$room/link$links" || exit 2
-            path=$room/link$links
-        fi
+        text_path "$2"
         return
     fi
     make_room "$2"
