@@ -7,16 +7,18 @@ mod orders_part;
 mod spellings_part;
 
 use calls::fresh;
-use console::argument::argument;
+use console::argument::{argument, is_given};
 use console::file::{File, Sum, open_file, put_sum};
 use console::program::{Program, put_maker};
 use console::report::{Report, end_report, flush, fresh_report, up_to};
-use console::told::{DONE, FAILED, REFUSED, hand_over, say};
+use console::told::{DONE, Errors, FAILED, REFUSED, hand_over, say};
 use layout::places::SESSION;
 use orders_part::{Ordered, put_orders};
 use scan::part::part;
 use sheet::sheet::{Sheet, run, start};
 use spellings_part::put_spellings;
+use std::fs;
+use std::rt::{Env, Files};
 use tally::{COUNTS, put_tally};
 use texts::put::put_text;
 
@@ -33,30 +35,38 @@ fn both(a: Ordered, b: Ordered) -> Ordered {
 }
 
 // One line for tab prefixes, which win, and one for axes and sides.
-fn own_orders(out: &mut [u8], r: Report) -> Ordered {
-    let tabs = put_orders(out, r, b"3tab tab vert abo sp a\\ b");
+fn own_orders(rt: &(impl Print + Errors), out: &mut [u8], r: Report) -> Ordered {
+    let tabs = put_orders(rt, out, r, b"3tab tab vert abo sp a\\ b");
     let report = tabs.report;
-    let others = put_orders(out, report, b"vert hor abo bel hor sp a\\ b");
+    let others = put_orders(rt, out, report, b"vert hor abo bel hor sp a\\ b");
     both(tabs, others)
 }
 
 // The orders of the prefixes of the line that is given, or of two where none is.
-fn orders(out: &mut [u8], r: Report) -> Ordered {
-    if os::arg_count() < 3 {
-        return own_orders(out, r);
+fn orders(rt: &(impl Print + Errors + Env), out: &mut [u8], r: Report) -> Ordered {
+    if !is_given(rt, 2) {
+        return own_orders(rt, out, r);
     }
-    let mut line = io::buffer();
-    let n = argument(2, &mut line);
-    put_orders(out, r, part(&line, 0, n))
+    let mut line = [0u8; 4096];
+    let n = argument(rt, 2, &mut line);
+    put_orders(rt, out, r, part(&line, 0, n))
 }
 
 // The reference sheet's lines.
-fn reference(f: File, path: &[u8], counts: &mut [u64; COUNTS], out: &mut [u8], r: Report) -> Sheet {
+fn reference(
+    rt: &(impl Print + Errors),
+    f: &mut File,
+    path: &[u8],
+    counts: &mut [u64; COUNTS],
+    out: &mut [u8],
+    r: Report,
+) -> Sheet {
     let mut session = [0u8; SESSION];
     fresh(&mut session);
     let at = put_text(out, r.at, b"reference sheet\n");
     run(
-        f.fd,
+        rt,
+        f,
         path,
         &mut session,
         counts,
@@ -66,9 +76,10 @@ fn reference(f: File, path: &[u8], counts: &mut [u64; COUNTS], out: &mut [u8], r
 }
 
 // Whether a sum is that of the reference sheet that this version is for.
-fn is_reference(s: Sum, path: &[u8]) -> bool {
+fn is_reference(rt: &impl Errors, s: Sum, path: &[u8]) -> bool {
     if s.good && crc::end(s.crc) != REFERENCE {
         say(
+            rt,
             Program::Checklist,
             path,
             b" is not the reference sheet of this version",
@@ -79,10 +90,16 @@ fn is_reference(s: Sum, path: &[u8]) -> bool {
 }
 
 // Sums the reference sheet up, and ends the report.
-fn summed_up(out: &mut [u8], s: Sheet, counts: &[u64; COUNTS], good: bool) -> u64 {
+fn summed_up(
+    rt: &(impl Print + Errors + Files),
+    out: &mut [u8],
+    s: Sheet,
+    counts: &[u64; COUNTS],
+    good: bool,
+) -> u64 {
     let report = s.report;
     let at = put_tally(out, report.at, counts);
-    if !end_report(out, up_to(report, at)) {
+    if !end_report(rt, out, up_to(report, at)) {
         return FAILED;
     }
     if good {
@@ -100,46 +117,59 @@ fn head(out: &mut [u8], sum: Sum) -> Report {
 }
 
 // The head, the spellings and the orders.
-fn first_parts(out: &mut [u8], sum: Sum) -> Ordered {
+fn first_parts(rt: &(impl Print + Errors + Env), out: &mut [u8], sum: Sum) -> Ordered {
     let r = head(out, sum);
-    let a = put_spellings(out, r);
-    orders(out, a)
+    let a = put_spellings(rt, out, r);
+    orders(rt, out, a)
 }
 
 // A report that is broken off has no number.
-fn ended(out: &mut [u8], path: &[u8], s: Sheet, counts: &[u64; COUNTS], good: bool) -> u64 {
+fn ended(
+    rt: &(impl Print + Errors + Files),
+    out: &mut [u8],
+    path: &[u8],
+    s: Sheet,
+    counts: &[u64; COUNTS],
+    good: bool,
+) -> u64 {
     let sum = s.sum;
-    if is_reference(sum, path) {
-        return summed_up(out, s, counts, good);
+    if is_reference(rt, sum, path) {
+        return summed_up(rt, out, s, counts, good);
     }
     let report = s.report;
-    flush(out, report);
+    flush(rt, out, report);
     FAILED
 }
 
 // All parts.
-fn report(f: File, path: &[u8], out: &mut [u8]) -> u64 {
+fn report(
+    rt: &(impl Print + Errors + Env + Files),
+    f: &mut File,
+    path: &[u8],
+    out: &mut [u8],
+) -> u64 {
     let sum = f.sum;
-    let first = first_parts(out, sum);
+    let first = first_parts(rt, out, sum);
     let r = first.report;
     let mut counts = [0u64; COUNTS];
-    let s = reference(f, path, &mut counts, out, r);
-    ended(out, path, s, &counts, first.good)
+    let s = reference(rt, f, path, &mut counts, out, r);
+    ended(rt, out, path, s, &counts, first.good)
 }
 
 // The report, where the sheet is the right one.
-fn verdict_of(path: &[u8]) -> u64 {
-    let f = open_file(Program::Checklist, path, path);
+fn verdict_of<R: Print + Errors + Env + Files<File = fs::File>>(rt: &R, path: &[u8]) -> u64 {
+    let mut f = open_file(rt, Program::Checklist, path, path);
     let sum = f.sum;
-    if !is_reference(sum, path) {
+    if !is_reference(rt, sum, path) {
         return FAILED;
     }
-    let mut out = io::large_buffer();
-    report(f, path, &mut out)
+    let mut out = [0u8; 65536];
+    report(rt, &mut f, path, &mut out)
 }
 
-fn main() {
-    let mut path = io::buffer();
-    let n = argument(1, &mut path);
-    hand_over(verdict_of(part(&path, 0, n)));
+fn main(rt: HostRuntime) {
+    let mut path = [0u8; 4096];
+    let n = argument(&rt, 1, &mut path);
+    let verdict = verdict_of(&rt, part(&path, 0, n));
+    hand_over(&rt, verdict);
 }

@@ -1,5 +1,6 @@
 // The line with its prefixes in every order, and how many orders agree with what the last prefixes say.
 use console::report::{Report, flush_full, up_to};
+use console::told::Errors;
 use limits::LINE;
 use orders::order::orders_of;
 use orders::prefixes::{Prefixes, prefixes_of};
@@ -27,17 +28,24 @@ pub struct Ordered {
 
 fn one_more(n: u64, is: bool) -> u64 {
     if is {
-        return std::num::wrapping_add_u64(n, 1);
+        return n.wrapping_add(1);
     }
     n
 }
 
 // One order.
-fn turn(out: &mut [u8], line: &[u8], p: Prefixes, number: u64, s: Orders) -> Orders {
+fn turn(
+    rt: &(impl Print + Errors),
+    out: &mut [u8],
+    line: &[u8],
+    p: Prefixes,
+    number: u64,
+    s: Orders,
+) -> Orders {
     let report = s.report;
     let told = put_told(out, report.at, line, p, number);
     Orders {
-        report: flush_full(out, up_to(report, told.at)),
+        report: flush_full(rt, out, up_to(report, told.at)),
         agree: one_more(s.agree, told.agrees),
         refused: s.refused || told.refused,
     }
@@ -60,17 +68,21 @@ fn put_total(out: &mut [u8], at: usize, orders: u64, agree: u64) -> usize {
 }
 
 // All orders of the prefixes.
-fn put_all(out: &mut [u8], r: Report, line: &[u8], p: Prefixes) -> Ordered {
+fn put_all(
+    rt: &(impl Print + Errors),
+    out: &mut [u8],
+    r: Report,
+    line: &[u8],
+    p: Prefixes,
+) -> Ordered {
     let n = orders_of(p.count);
     let mut s = Orders {
         report: r,
         agree: 0,
         refused: false,
     };
-    let mut i: u64 = 0;
-    while i < n {
-        s = turn(out, line, p, i, s);
-        i += 1;
+    for i in 0..n {
+        s = turn(rt, out, line, p, i, s);
     }
     let report = s.report;
     let at = put_total(out, report.at, n, s.agree);
@@ -89,16 +101,22 @@ fn not_ordered(r: Report, at: usize) -> Ordered {
 }
 
 // The orders of a line whose prefixes are found. With none there is one order, and more than five are not put in order.
-fn put_found(out: &mut [u8], r: Report, line: &[u8], p: Prefixes) -> Ordered {
+fn put_found(
+    rt: &(impl Print + Errors),
+    out: &mut [u8],
+    r: Report,
+    line: &[u8],
+    p: Prefixes,
+) -> Ordered {
     if p.count == 0 {
         let at = put_text(out, r.at, b"the line has no prefix\n");
-        return put_all(out, up_to(r, at), line, p);
+        return put_all(rt, out, up_to(r, at), line, p);
     }
     if p.count > 5 {
         let at = put_text(out, r.at, b"the line has more than five prefixes\n");
         return not_ordered(r, at);
     }
-    put_all(out, r, line, p)
+    put_all(rt, out, r, line, p)
 }
 
 // That a line is too long.
@@ -116,13 +134,13 @@ fn put_heading(out: &mut [u8], at: usize, line: &[u8]) -> usize {
 }
 
 // The orders of a line of UTF-8.
-fn put_of_text(out: &mut [u8], r: Report, line: &[u8]) -> Ordered {
+fn put_of_text(rt: &(impl Print + Errors), out: &mut [u8], r: Report, line: &[u8]) -> Ordered {
     let at = put_heading(out, r.at, line);
-    put_found(out, up_to(r, at), line, prefixes_of(line))
+    put_found(rt, out, up_to(r, at), line, prefixes_of(line))
 }
 
 // The orders of a line.
-pub fn put_orders(out: &mut [u8], r: Report, line: &[u8]) -> Ordered {
+pub fn put_orders(rt: &(impl Print + Errors), out: &mut [u8], r: Report, line: &[u8]) -> Ordered {
     if LONGEST < line.len() {
         let at = put_too_long(out, r.at);
         return not_ordered(r, at);
@@ -131,5 +149,5 @@ pub fn put_orders(out: &mut [u8], r: Report, line: &[u8]) -> Ordered {
         let at = put_text(out, r.at, b"the line is not UTF-8: no orders\n");
         return not_ordered(r, at);
     }
-    put_of_text(out, r, line)
+    put_of_text(rt, out, r, line)
 }

@@ -1,5 +1,6 @@
 // Each spelling, in byte order, with the command that it leads to: the command's number and its name.
 use console::report::{Report, flush_full, up_to};
+use console::told::Errors;
 use replies::put_number;
 use scan::part::part;
 use spellings::{names, row_at, spellings, word_of};
@@ -34,7 +35,7 @@ fn put_total(out: &mut [u8], at: usize, count: u64) -> usize {
 }
 
 // All spellings, and how many there are.
-pub fn put_spellings(out: &mut [u8], r: Report) -> Report {
+pub fn put_spellings(rt: &(impl Print + Errors), out: &mut [u8], r: Report) -> Report {
     let rows = spellings();
     let mut at = put_text(out, r.at, b"spellings and their commands\n");
     let mut count: u64 = 0;
@@ -42,9 +43,9 @@ pub fn put_spellings(out: &mut [u8], r: Report) -> Report {
     while i < rows.len() {
         let row = row_at(&rows, i);
         at = put_spelling(out, at, part(&rows, row.start, row.stop));
-        count = std::num::wrapping_add_u64(count, 1);
+        count = count.wrapping_add(1);
         i = row.stop;
     }
     let end = put_total(out, at, count);
-    flush_full(out, up_to(r, end))
+    flush_full(rt, out, up_to(r, end))
 }
