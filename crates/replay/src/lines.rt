@@ -67,7 +67,7 @@ fn untouched(store: &[u8]) -> u64 {
     let mut n: u64 = 0;
     let mut i: usize = 0;
     while i < store.len() {
-        n = std::num::wrapping_add_u64(n, if store[i] == 0xAA { 1 } else { 0 });
+        n = n.wrapping_add(if store[i] == 0xAA { 1 } else { 0 });
         i += 1;
     }
     n

@@ -4,9 +4,10 @@
 mod lines;
 
 use layout::places::SESSION;
-use libc::STDIN_FILENO;
 use lines::Answered;
 use scan::part::part;
+use std::io;
+use std::io::Read;
 use vectors::{Frame, Tally};
 
 // How far the run is, and the bytes of the session that goes on from vector to vector.
@@ -26,33 +27,33 @@ fn answer(session: [u8; SESSION], op: u8, text: &[u8], out: &mut [u8]) -> Answer
     }
 }
 
-fn replayed(t: Replay, op: u8, text: &[u8], want: &[u8]) -> Replay {
+fn replayed(rt: &impl Print, t: Replay, op: u8, text: &[u8], want: &[u8]) -> io::Result<Replay> {
     let mut out = [0u8; 4096];
     let tally = t.tally;
     let session = t.session;
     let answered = answer(session, op, text, &mut out);
     let next = answered.session;
-    Replay {
-        tally: vectors::counted(tally, check::same(part(&out, 0, answered.end), want)),
+    Ok(Replay {
+        tally: vectors::counted(rt, tally, part(&out, 0, answered.end) == want)?,
         session: next,
-    }
+    })
 }
 
-fn turn(t: Replay) -> Replay {
+fn turn<I: Read>(rt: &impl Print, input: &mut I, t: Replay) -> io::Result<Replay> {
     let mut text = [0u8; 1028];
     let mut want = [0u8; 4096];
     let tally = t.tally;
     let session = t.session;
-    match vectors::next_vector(STDIN_FILENO, &mut text, &mut want) {
-        Frame::End => Replay {
-            tally: vectors::finished(tally),
+    match vectors::next_vector(input, &mut text, &mut want)? {
+        Frame::End => Ok(Replay {
+            tally: vectors::finished(rt, tally)?,
             session: session,
-        },
-        Frame::Broken => Replay {
-            tally: vectors::broken(tally),
+        }),
+        Frame::Broken => Ok(Replay {
+            tally: vectors::broken(rt, tally)?,
             session: session,
-        },
-        Frame::Vector(op, n, m) => replayed(t, op, part(&text, 0, n), part(&want, 0, m)),
+        }),
+        Frame::Vector(op, n, m) => replayed(rt, t, op, part(&text, 0, n), part(&want, 0, m)),
     }
 }
 
@@ -61,15 +62,18 @@ fn more(t: Replay) -> bool {
     tally.more
 }
 
-// A proved loop has to end, so it counts its turns down from a number that no run uses up.
-fn main() {
-    let mut turns = u64::MAX;
+// A proved loop has to end, so it counts its turns up to a number that no run reaches.
+fn main(rt: HostRuntime) -> io::Result<()> {
+    let mut input = rt.reader();
     let mut t = Replay {
         tally: vectors::start(),
         session: lines::fresh(),
     };
-    while turns > 0 && more(t) {
-        t = turn(t);
-        turns -= 1;
+    for _ in 0..u64::MAX {
+        if !more(t) {
+            break;
+        }
+        t = turn(&rt, &mut input, t)?;
     }
+    Ok(())
 }
