@@ -7,6 +7,11 @@ TOP = pathlib.Path(__file__).resolve().parents[2]
 CRATES = TOP / 'crates'
 
 
+def built(name):
+    """A program as `rt ci` or `rt run` built it."""
+    return CRATES / name / 'out' / name
+
+
 def constants(path):
     """The constants of a file of Rattle, worked out; a constant may name the limits and those before it."""
     known = dict(limits()) if path != CRATES / 'limits/src/lib.rt' else {}
