@@ -16,7 +16,8 @@ def constants(path):
     """The constants of a file of Rattle, worked out; a constant may name the limits and those before it."""
     known = dict(limits()) if path != CRATES / 'limits/src/lib.rt' else {}
     for name, value in re.findall(r'pub const (\w+): \w+ = ([^;]+);', path.read_text()):
-        known[name] = eval(value, {}, known)
+        refusal = re.fullmatch(r'Refusal::(\w+) as u64', value)
+        known[name] = dict(numbers())[refusal[1]] if refusal else eval(value, {}, known)
     return known
 
 

@@ -1,7 +1,6 @@
 // Records written to a store. Each function needs room for the longest that it can write, and says that it wrote no more.
 ghost use Rattle.std.specs.Prelude.{◌++◌, ◌+◌, ◌≤◌, ◌<◌, length};
 ghost use Rattle.limits.specs.Limits.{spare};
-ghost use Rattle.scan.specs.Bytes.{Classes};
 ghost use Rattle.store.specs.Sevens.{encode, named};
 ghost use Rattle.lists.specs.Lists.{text_at};
 ghost use Rattle.actions.specs.Within.{Within};
@@ -146,24 +145,16 @@ fn put_change(store: &mut [u8], at: usize, c: SizeChange) -> usize
 }
 
 // The item of the argument `s` at `start`, as a name.
-fn put_item_within(
-    store: &mut [u8],
-    at: usize,
-    s: &[u8],
-    start: usize,
-    classes: &[u8; 256],
-) -> usize
-    requires classes { Classes classes.now }
-    requires s_in_bounds { at + (10 + length s.now) ≤ length store.old }
+fn put_item_within(store: &mut [u8], at: usize, s: &[u8], start: usize) -> usize
+    requires { at + (10 + length s.now) ≤ length store.old }
     ensures { Within store.old store.new at result (named (text_at s.now start)) (10 + length s.now) }
 {
-    put_item(s, start, classes, store, at)
+    put_item(s, start, store, at)
 }
 
 // What is opened: a name of the argument `s` is written unescaped.
-fn put_opened(store: &mut [u8], at: usize, s: &[u8], t: OpenTarget, classes: &[u8; 256]) -> usize
-    requires classes { Classes classes.now }
-    requires s_in_bounds { at + (11 + length s.now) ≤ length store.old }
+fn put_opened(store: &mut [u8], at: usize, s: &[u8], t: OpenTarget) -> usize
+    requires { at + (11 + length s.now) ≤ length store.old }
     ensures { Within store.old store.new at result (opened_bytes (opened_of s.now t)) (11 + length s.now) }
 {
     match t {
@@ -172,22 +163,21 @@ fn put_opened(store: &mut [u8], at: usize, s: &[u8], t: OpenTarget, classes: &[u
         OpenTarget::Unnamed => put_small(store, at, 2),
         OpenTarget::Name(x) => {
             let i = put_small(store, at, 3);
-            put_item_within(store, i, s, x.start, classes)
+            put_item_within(store, i, s, x.start)
         }
     }
 }
 
 // The file that is written, if it is named.
-fn put_written(store: &mut [u8], at: usize, s: &[u8], n: WriteName, classes: &[u8; 256]) -> usize
-    requires classes { Classes classes.now }
-    requires s_in_bounds { at + (11 + length s.now) ≤ length store.old }
+fn put_written(store: &mut [u8], at: usize, s: &[u8], n: WriteName) -> usize
+    requires { at + (11 + length s.now) ≤ length store.old }
     ensures { Within store.old store.new at result (written_bytes (written_of s.now n)) (11 + length s.now) }
 {
     match n {
         WriteName::Absent => put_small(store, at, 0),
         WriteName::Name(x) => {
             let i = put_small(store, at, 1);
-            put_item_within(store, i, s, x.start, classes)
+            put_item_within(store, i, s, x.start)
         }
     }
 }
@@ -235,15 +225,13 @@ fn put_window(
     a: Axis,
     d: Side,
     n: Count,
-    classes: &[u8; 256],
 ) -> usize
-    requires classes { Classes classes.now }
     requires s_in_bounds { at + (35 + length s.now) ≤ length store.old }
     requires kind_bound { kind < 128 }
     ensures { Within store.old store.new at result (encode kind ++ (opened_bytes (opened_of s.now t) ++ (encode f.bits ++ (encode (axis_no a) ++ (encode (side_no d) ++ count_bytes n))))) (35 + length s.now) }
 {
     let h = put_small(store, at, kind);
-    let i = put_opened(store, h, s, t, classes);
+    let i = put_opened(store, h, s, t);
     let j = put_any(store, i, f.bits);
     let k = put_axis(store, j, a);
     let l = put_side(store, k, d);
@@ -251,67 +239,42 @@ fn put_window(
 }
 
 // A window that is switched: target, flags.
-fn put_switched(
-    store: &mut [u8],
-    at: usize,
-    s: &[u8],
-    t: OpenTarget,
-    f: OpenFlags,
-    classes: &[u8; 256],
-) -> usize
-    requires classes { Classes classes.now }
-    requires s_in_bounds { at + (22 + length s.now) ≤ length store.old }
+fn put_switched(store: &mut [u8], at: usize, s: &[u8], t: OpenTarget, f: OpenFlags) -> usize
+    requires { at + (22 + length s.now) ≤ length store.old }
     ensures { Within store.old store.new at result (encode 5 ++ (opened_bytes (opened_of s.now t) ++ encode f.bits)) (22 + length s.now) }
 {
     let i = put_small(store, at, 5);
-    let j = put_opened(store, i, s, t, classes);
+    let j = put_opened(store, i, s, t);
     put_any(store, j, f.bits)
 }
 
 // Windows that are written: target, name, flags.
-fn put_write(
-    store: &mut [u8],
-    at: usize,
-    s: &[u8],
-    t: Target,
-    n: WriteName,
-    f: WriteFlags,
-    classes: &[u8; 256],
-) -> usize
-    requires classes { Classes classes.now }
-    requires s_in_bounds { at + (37 + length s.now) ≤ length store.old }
+fn put_write(store: &mut [u8], at: usize, s: &[u8], t: Target, n: WriteName, f: WriteFlags) -> usize
+    requires { at + (37 + length s.now) ≤ length store.old }
     ensures { Within store.old store.new at result (encode 6 ++ (target_bytes t ++ (written_bytes (written_of s.now n) ++ encode f.bits))) (37 + length s.now) }
 {
     let i = put_small(store, at, 6);
     let j = put_target(store, i, t);
-    let k = put_written(store, j, s, n, classes);
+    let k = put_written(store, j, s, n);
     put_any(store, k, f.bits)
 }
 
-fn put_window_action(
-    store: &mut [u8],
-    at: usize,
-    s: &[u8],
-    w: WindowAction,
-    classes: &[u8; 256],
-) -> usize
-    requires classes { Classes classes.now }
-    requires s_in_bounds { at + (spare + length s.now) ≤ length store.old }
+fn put_window_action(store: &mut [u8], at: usize, s: &[u8], w: WindowAction) -> usize
+    requires { at + (spare + length s.now) ≤ length store.old }
     ensures { Within store.old store.new at result (paper_record (window_of s.now w)) (spare + length s.now) }
 {
     match w {
         WindowAction::Close(t, f) => put_closed(store, at, 1, t, f),
         WindowAction::Resize(f, a, c) => put_resized(store, at, f, a, c),
-        WindowAction::Open(t, f, a, d, n) => put_window(store, at, 3, s, t, f, a, d, n, classes),
-        WindowAction::Split(t, f, a, d, n) => put_window(store, at, 4, s, t, f, a, d, n, classes),
-        WindowAction::Switch(t, f) => put_switched(store, at, s, t, f, classes),
-        WindowAction::Write(t, n, f) => put_write(store, at, s, t, n, f, classes),
+        WindowAction::Open(t, f, a, d, n) => put_window(store, at, 3, s, t, f, a, d, n),
+        WindowAction::Split(t, f, a, d, n) => put_window(store, at, 4, s, t, f, a, d, n),
+        WindowAction::Switch(t, f) => put_switched(store, at, s, t, f),
+        WindowAction::Write(t, n, f) => put_write(store, at, s, t, n, f),
     }
 }
 
-fn put_tab_action(store: &mut [u8], at: usize, s: &[u8], t: TabAction, classes: &[u8; 256]) -> usize
-    requires classes { Classes classes.now }
-    requires s_in_bounds { at + (spare + length s.now) ≤ length store.old }
+fn put_tab_action(store: &mut [u8], at: usize, s: &[u8], t: TabAction) -> usize
+    requires { at + (spare + length s.now) ≤ length store.old }
     ensures { Within store.old store.new at result (paper_record (tab_of s.now t)) (spare + length s.now) }
 {
     match t {
@@ -320,7 +283,7 @@ fn put_tab_action(store: &mut [u8], at: usize, s: &[u8], t: TabAction, classes: 
         TabAction::Move(f) => put_focused(store, at, 9, f),
         TabAction::Open(x, f, c) => {
             let i = put_small(store, at, 10);
-            let j = put_opened(store, i, s, x, classes);
+            let j = put_opened(store, i, s, x);
             let k = put_any(store, j, f.bits);
             put_focus(store, k, c)
         }
@@ -328,14 +291,13 @@ fn put_tab_action(store: &mut [u8], at: usize, s: &[u8], t: TabAction, classes: 
 }
 
 // Writes the record of an action, whose name, if it has one, has its place in the argument `s`, and answers the place after it.
-pub fn put_action(store: &mut [u8], at: usize, s: &[u8], a: Action, classes: &[u8; 256]) -> usize
-    requires classes { Classes classes.now }
-    requires s_in_bounds { at + (spare + length s.now) ≤ length store.old }
+pub fn put_action(store: &mut [u8], at: usize, s: &[u8], a: Action) -> usize
+    requires { at + (spare + length s.now) ≤ length store.old }
     ensures { Within store.old store.new at result (record_of s.now a) (spare + length s.now) }
 {
     match a {
-        Action::Window(w) => put_window_action(store, at, s, w, classes),
-        Action::Tab(t) => put_tab_action(store, at, s, t, classes),
+        Action::Window(w) => put_window_action(store, at, s, w),
+        Action::Tab(t) => put_tab_action(store, at, s, t),
     }
 }
 

@@ -1,6 +1,5 @@
 // The handlers by the numbers of their commands, in the order of default_cmds. Prefixes are no part of it.
 ghost use Rattle.std.specs.Prelude.{◌≡◌};
-ghost use Rattle.scan.specs.Bytes.{Classes};
 ghost use Rattle.commands.specs.Handle.{split_context, handle_of};
 
 use context::context::CommandContext;
@@ -29,14 +28,7 @@ fn split_context(n: u64, x: CommandContext) -> CommandContext
 
 // What the command `n` does with a reading `d` of the text `s`; `!`, `&`, read, print and substitute, and numbers that no command has, are
 // refused by 11.
-pub fn handle(
-    n: u64,
-    s: &[u8],
-    d: CommandDescription,
-    x: CommandContext,
-    classes: &[u8; 256],
-) -> Done
-    requires { Classes classes.now }
+pub fn handle(n: u64, s: &[u8], d: CommandDescription, x: CommandContext) -> Done
     ensures { result ≡ handle_of n s.now d x }
 {
     match n {
@@ -44,18 +36,18 @@ pub fn handle(
         6 => vim_cmd_only(s, d),
         7 => vim_cmd_quit(s, d),
         8 => vim_cmd_quitall(d),
-        9 => vim_cmd_resize(s, d, x, classes),
-        10 | 11 => vim_cmd_sp(s, d, split_context(n, x), classes),
-        12 => vim_cmd_view(s, d, x, classes),
+        9 => vim_cmd_resize(s, d, x),
+        10 | 11 => vim_cmd_sp(s, d, split_context(n, x)),
+        12 => vim_cmd_view(s, d, x),
         14 => vim_cmd_tabclose(s, d),
-        15 => vim_cmd_tabedit(s, d, classes),
-        16 => vim_cmd_tabmove(s, d, classes),
-        17 => vim_cmd_tabnext(s, d, classes),
+        15 => vim_cmd_tabedit(s, d),
+        16 => vim_cmd_tabmove(s, d),
+        17 => vim_cmd_tabnext(s, d),
         18 => vim_cmd_tabonly(s, d),
-        19 => vim_cmd_tabprev(s, d, classes),
+        19 => vim_cmd_tabprev(s, d),
         20 => vim_cmd_tabfirst(),
         21 => vim_cmd_tablast(),
-        22 => vim_cmd_write(s, d, classes),
+        22 => vim_cmd_write(s, d),
         23 => vim_cmd_write_all(d),
         _ => Done::Refused(Refusal::Unimplemented),
     }

@@ -1,17 +1,8 @@
--- Laws of CRC-32: one bit by the test on it, and a text from a place on.
+-- Laws of CRC-32: a text from a place on.
 -- Assumes nothing.
-use Rattle.std.specs.Prelude.{◌≡◌, List, ℕ, ◌+◌, ◌<◌, ◌≤◌, ◌/◌, ◌%◌, length, get_or, drop}
-use Rattle.std.proofs.Common.{add-one, drop_of_length-le, drop-cons, eq-eqb, ne_eqb}
-use Rattle.std.specs.Int.Bits.{bit_xor}
-use Rattle.crc.specs.Crc.{crc_bit, crc_byte, crc_from}
-
-pub bit_odd : (c : ℕ) → c % 2 ≡ 1 → crc_bit c ≡ bit_xor 0xEDB88320 (c / 2)
-unfolding crc_bit
-bit_odd c e = rw (eq-eqb (c % 2) 1 e)
-
-pub bit_even : (c : ℕ) → (c % 2 ≡ 1 → ⊥) → crc_bit c ≡ c / 2
-unfolding crc_bit
-bit_even c e = rw (ne_eqb (c % 2) 1 e)
+use Rattle.std.specs.Prelude.{◌≡◌, List, ℕ, ◌+◌, ◌<◌, ◌≤◌, length, get_or, drop}
+use Rattle.std.proofs.Common.{add-one, drop_of_length-le, drop-cons}
+use Rattle.crc.specs.Crc.{crc_byte, crc_from}
 
 -- one byte more
 pub from_on : (d : ℕ) (s : List ℕ) (i : ℕ) → i < length s → crc_from d (drop i s) ≡ crc_from (crc_byte d (get_or s i 0)) (drop (i + 1) s)

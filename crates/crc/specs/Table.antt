@@ -12,6 +12,6 @@ passed (suc k) c = passed k (crc_byte c 0)
 unfoldable pub entry_of : ℕ → ℕ
 entry_of j = passed (j / 256 + 1) (j % 256)
 
--- a list whose first n entries are those of the table
-abbrev pub Entries : List ℕ → ℕ → Type 0
-Entries t n = (j : ℕ) → j < n → get_or t j 0 ≡ entry_of j
+-- the rule of the table: each of its 4096 entries is the one of the place that it stands at
+pub record Entries (table : List ℕ) : Type 0 where
+  pub rule : (j : ℕ) → j < 4096 → get_or table j 0 ≡ entry_of j

@@ -1,16 +1,15 @@
 -- Laws of CRC-32 by a table. It is linear: the number of an exclusive or is the exclusive or of the numbers. So a byte is an entry of the
 -- table and a shift, bytes are one number, passed at once, and a number is passed byte by byte of it. Assumes nothing.
-use Rattle.std.specs.Prelude.{◌≡◌, refl, cond, List, [], ◌∷◌, ◌++◌, ℕ, zero, suc, ◌+◌, ◌-◌, ◌*◌, ◌^◌, ◌/◌, ◌%◌, ◌<◌, ◌≤◌, eqb, length, get_or, drop, set}
-use Rattle.std.proofs.Common.{sym, ap, ap₂, ◌∙◌, add-one, arith, take-append-drop, drop-drop, get_or-drop, get_or-take, get_or-set_same, get_or-set_other, below_more}
-use Rattle.std.specs.Int.Bits.{bit_xor, differ}
+use Rattle.std.specs.Prelude.{◌≡◌, refl, cond, List, [], ◌∷◌, ◌++◌, ℕ, zero, suc, ◌+◌, ◌-◌, ◌*◌, ◌^◌, ◌/◌, ◌%◌, ◌<◌, ◌≤◌, eqb, length, get_or, drop}
+use Rattle.std.proofs.Common.{sym, ap, ap₂, ◌∙◌, add-one, arith, take-append-drop, drop-drop, get_or-drop, get_or-take}
+use Rattle.std.specs.Int.Bits.{bit_xor, xor_assoc, xor_mod, xor_shr}
 use Rattle.std.proofs.lemmas.Nat.{xor_comm, xor_lt}
 use Rattle.scan.specs.Number.{number_of}
 use Rattle.scan.specs.PartLaws.{part_length}
 use Rattle.scan.specs.Scan.{part_of}
 use Rattle.crc.specs.Crc.{crc_bit, crc_byte, crc_from}
-use Rattle.crc.specs.CrcLaws.{bit_even}
-use Rattle.crc.specs.Table.{passed, entry_of, Entries}
-use Rattle.crc.specs.XorLaws.{by_digit, xor_odd, xor_half, xor_assoc, xor_left, xor_twice, xor_above, xor_parts}
+use Rattle.crc.specs.Table.{passed, entry_of}
+use Rattle.crc.specs.XorLaws.{by_digit, xor_left, xor_twice, xor_above, xor_parts}
 
 -- one bit, by any polynomial -----------------------------------------------------------------------------------------------
 
@@ -19,12 +18,12 @@ pick : ℕ → ℕ → ℕ → ℕ
 pick p x y = cond (eqb x 1) (bit_xor p y) y
 
 -- it is linear
-pick_xor : (p x y a b : ℕ) → x < 2 → y < 2 → pick p (differ x y) (bit_xor a b) ≡ bit_xor (pick p x a) (pick p y b)
+pick_xor : (p x y a b : ℕ) → x < 2 → y < 2 → pick p (bit_xor x y) (bit_xor a b) ≡ bit_xor (pick p x a) (pick p y b)
 unfolding pick
 pick_xor p x y a b h k =
-    by_digit (λ x. pick p (differ x y) (bit_xor a b) ≡ bit_xor (pick p x a) (pick p y b))
+    by_digit (λ x. pick p (bit_xor x y) (bit_xor a b) ≡ bit_xor (pick p x a) (pick p y b))
     (by_digit (λ y. pick p y (bit_xor a b) ≡ bit_xor a (pick p y b)) refl (xor_left p a b) y k)
-    (by_digit (λ y. pick p (differ 1 y) (bit_xor a b) ≡ bit_xor (bit_xor p a) (pick p y b)) (sym (xor_assoc p a b)) (sym (xor_twice p a b)) y k) x h
+    (by_digit (λ y. pick p (bit_xor 1 y) (bit_xor a b) ≡ bit_xor (bit_xor p a) (pick p y b)) (sym (xor_assoc p a b)) (sym (xor_twice p a b)) y k) x h
 
 bit_pick : (c : ℕ) → crc_bit c ≡ pick 0xEDB88320 (c % 2) (c / 2)
 unfolding crc_bit pick
@@ -33,13 +32,14 @@ bit_pick c = refl
 bit_xor_lem : (a b : ℕ) → crc_bit (bit_xor a b) ≡ bit_xor (crc_bit a) (crc_bit b)
 bit_xor_lem a b =
     bit_pick (bit_xor a b)
-    ∙ ap₂ (pick 0xEDB88320) (xor_odd a b) (xor_half a b)
+    ∙ ap₂ (pick 0xEDB88320) (xor_mod a b 1) (xor_shr a b 1)
     ∙ pick_xor 0xEDB88320 (a % 2) (b % 2) (a / 2) (b / 2) (omega arith) (omega arith)
     ∙ sym (ap₂ bit_xor (bit_pick a) (bit_pick b))
 
 -- a bit that is 0 is dropped
 bit_twice : (a : ℕ) → crc_bit (a * 2) ≡ a
-bit_twice a = bit_even (a * 2) (λ e. omega arith) ∙ omega arith
+unfolding crc_bit
+bit_twice a = let m : a * 2 % 2 ≡ 0 = omega arith in let d : a * 2 / 2 ≡ a = omega arith in rw (m, d)
 
 -- a number of 32 bits stays one
 bit_lt : (c : ℕ) → c < 2 ^ 32 → crc_bit c < 2 ^ 32
@@ -76,7 +76,12 @@ byte_shift a = let e : a * 256 ≡ a * 2 * 2 * 2 * 2 * 2 * 2 * 2 * 2 = omega ari
 byte_parts : (c : ℕ) → crc_byte c 0 ≡ bit_xor (crc_byte (c % 256) 0) (c / 256)
 byte_parts c = ap (λ x. crc_byte x 0) (xor_parts c) ∙ byte_xor (c % 256) (c / 256 * 256) ∙ ap (bit_xor (crc_byte (c % 256) 0)) (byte_shift (c / 256))
 
--- and leaves it a number of 32 bits
+-- so a byte is an entry of the table and a shift
+pub byte_entry : (c b : ℕ) → crc_byte c b ≡ bit_xor (passed 1 (bit_xor b c % 256)) (bit_xor b c / 256)
+unfolding passed
+byte_entry c b = byte_zero c b ∙ byte_parts (bit_xor b c)
+
+-- a byte that is 0 leaves a number of 32 bits one
 pub byte_lt : (c : ℕ) → c < 2 ^ 32 → crc_byte c 0 < 2 ^ 32
 unfolding crc_byte
 byte_lt c h = bit_lt _ (bit_lt _ (bit_lt _ (bit_lt _ (bit_lt _ (bit_lt _ (bit_lt _ (bit_lt c h)))))))
@@ -123,12 +128,6 @@ passed_eight k x h =
 passed_twice : (c : ℕ) → passed 8 (passed 8 c) ≡ passed 16 c
 unfolding passed
 passed_twice c = refl
-
--- one more, behind the others
-passed_last : (k c : ℕ) → passed (suc k) c ≡ crc_byte (passed k c) 0
-unfolding passed
-passed_last zero c = refl
-passed_last (suc k) c = passed_last k (crc_byte c 0)
 
 -- bytes as one number, passed at once --------------------------------------------------------------------------------------
 
@@ -178,25 +177,6 @@ from_sixteen d s i h b =
 
 -- the entries of the table ---------------------------------------------------------------------------------------------------
 
--- the first 256: one byte
-pub entry_low : (j : ℕ) → j < 256 → entry_of j ≡ crc_byte j 0
-unfolding entry_of passed
-entry_low j h = let d : j / 256 ≡ 0 = omega arith in let m : j % 256 ≡ j = omega arith in rw (d, m)
-
--- one byte more than the entry 256 before
-entry_next : (j : ℕ) → 256 ≤ j → entry_of j ≡ crc_byte (entry_of (j - 256)) 0
-unfolding entry_of
-entry_next j h =
-    let d : j / 256 ≡ (j - 256) / 256 + 1 = omega arith in
-    let m : j % 256 ≡ (j - 256) % 256 = omega arith in
-    rw (d, m, add-one ((j - 256) / 256 + 1)) (passed_last ((j - 256) / 256 + 1) ((j - 256) % 256))
-
--- and so by the first 256
-pub entry_on : (j : ℕ) → 256 ≤ j → entry_of j ≡ bit_xor (entry_of (entry_of (j - 256) % 256)) (entry_of (j - 256) / 256)
-entry_on j h =
-    let v = entry_of (j - 256) in
-    entry_next j h ∙ byte_parts v ∙ ap (λ x. bit_xor x (v / 256)) (sym (entry_low (v % 256) (omega arith)))
-
 -- those of k + 1 bytes
 pub entry_at : (k x : ℕ) → entry_of (k * 256 + x % 256) ≡ passed (k + 1) (x % 256)
 unfolding entry_of
@@ -204,8 +184,3 @@ entry_at k x =
     let d : (k * 256 + x % 256) / 256 ≡ k = omega arith in
     let m : (k * 256 + x % 256) % 256 ≡ x % 256 = omega arith in
     rw (d, m)
-
--- one entry more
-pub entries_more : (t : List ℕ) (i v : ℕ) → i < length t → Entries t i → v ≡ entry_of i → Entries (set t i v) (i + 1)
-entries_more t i v h b e =
-    below_more _ i (λ j l. get_or-set_other t i j v 0 (λ q. omega arith) ∙ b j l) (get_or-set_same t i v 0 h ∙ e)

@@ -1,149 +1,62 @@
 // Two reports compared: the first line that differs in more than the name of a file.
-use super::differ::{Found, Place, Report, difference};
+use super::differ::{Pair, Place, difference};
 use console::told::Errors;
-use files::file::{further, window};
-use reports::names::{Named, named_at};
-use scan::part::part;
+use files::file::Unread;
+use reports::names::{Named, Names, named_at};
 
-// What two reports come to: the same; the same but for the name of the sheet, of the alias file or of both, first at a place; a place
-// where they differ; or a read that failed.
+// What two reports come to: the same; the same but for names, first at a place; or a place where they differ.
 #[derive(Clone, Copy)]
 pub enum Outcome {
     Equal,
-    Names(Place, bool, bool),
+    Names(Place, Names),
     Differ(Place),
-    Failed,
 }
 
-// How far two reports were compared: from where on more is to be compared, where a name differed first, whether the sheet's did and the
-// alias file's, and the outcome once no more is to be compared.
-#[derive(Clone, Copy)]
-struct Search {
-    from: Place,
-    first: Place,
-    sheet: bool,
-    aliases: bool,
-    more: bool,
-    outcome: Outcome,
-}
-
-// Nothing more is to be compared.
-fn came_to(s: Search, x: Outcome) -> Search {
-    let from = s.from;
-    let first = s.first;
-    Search {
-        from: from,
-        first: first,
-        sheet: s.sheet,
-        aliases: s.aliases,
-        more: false,
-        outcome: x,
-    }
-}
-
-// Nothing differs from the place that was reached on.
-fn nothing_more(s: Search) -> Search {
-    let first = s.first;
-    if s.sheet || s.aliases {
-        return came_to(s, Outcome::Names(first, s.sheet, s.aliases));
-    }
-    came_to(s, Outcome::Equal)
-}
-
-// The place where a name differed first: this one, if none did yet.
-fn first_of(s: Search, p: Place) -> Place {
-    if s.sheet || s.aliases {
-        return s.first;
-    }
-    p
-}
-
-// The lines at a place, which end so far on in each report, differ in a name alone.
-fn passed(s: Search, p: Place, i: usize, j: usize) -> Search {
-    let sheet = p.line == 2;
-    Search {
-        from: Place {
-            line: further(p.line, 1),
-            a: further(further(p.a, i as u64), 1),
-            b: further(further(p.b, j as u64), 1),
-        },
-        first: first_of(s, p),
-        sheet: s.sheet || sheet,
-        aliases: s.aliases || !sheet,
-        more: true,
-        outcome: Outcome::Equal,
-    }
-}
-
-// The lines at a place differ. One that is a report's last line differs in more than a name.
-fn at_place(
-    rt: &impl Errors,
-    a_name: &[u8],
-    a: Report<'_>,
-    b_name: &[u8],
-    b: Report<'_>,
-    s: Search,
-    p: Place,
-) -> Search {
-    if a.last <= p.a || b.last <= p.b {
-        return came_to(s, Outcome::Differ(p));
+// The lines at a place, if they differ in a name alone. One that is a report's last line differs in more than a name.
+fn named(rt: &impl Errors, r: Pair<'_>, p: Place) -> Result<Option<Named>, Unread> {
+    if r.a.last <= p.a || r.b.last <= p.b {
+        return Ok(None);
     }
     let mut x = [0u8; 65536];
-    let n = window(rt, a_name, a.file, p.a, a.last, &mut x);
+    let of_a = r.a.bytes(rt, p.a, &mut x);
     let mut y = [0u8; 65536];
-    let m = window(rt, b_name, b.file, p.b, b.last, &mut y);
-    if n == 0 || m == 0 {
-        return came_to(s, Outcome::Failed);
-    }
-    match named_at(p.line, part(&x, 0, n), part(&y, 0, m)) {
-        Named::Name(i, j) => passed(s, p, i, j),
-        Named::More => came_to(s, Outcome::Differ(p)),
-    }
+    let of_b = r.b.bytes(rt, p.b, &mut y);
+    Ok(named_at(p.line, of_a?, of_b?))
 }
 
-// Goes on to the next place where the reports differ.
-fn turn(
-    rt: &impl Errors,
-    a_name: &[u8],
-    a: Report<'_>,
-    b_name: &[u8],
-    b: Report<'_>,
-    s: Search,
-) -> Search {
-    let from = s.from;
-    match difference(rt, a_name, a, b_name, b, from) {
-        Found::Same => nothing_more(s),
-        Found::At(p) => at_place(rt, a_name, a, b_name, b, s, p),
-        Found::Failed => came_to(s, Outcome::Failed),
+// Names that differ, and where the first of them does, with those of one place more.
+fn joined(named: Option<(Place, Names)>, p: Place, names: Names) -> (Place, Names) {
+    match named {
+        None => (p, names),
+        Some((first, before)) if before == names => (first, names),
+        Some((first, _)) => (first, Names::Both),
     }
 }
 
 // Compares two reports. At most two lines differ in a name alone, so the third turn is the last.
-pub fn compare(
-    rt: &impl Errors,
-    a_name: &[u8],
-    a: Report<'_>,
-    b_name: &[u8],
-    b: Report<'_>,
-) -> Outcome {
-    let start = Place {
+pub fn compare(rt: &impl Errors, r: Pair<'_>) -> Result<Outcome, Unread> {
+    let mut from = Place {
         line: 1,
         a: 0,
         b: 0,
     };
-    let mut s = Search {
-        from: start,
-        first: start,
-        sheet: false,
-        aliases: false,
-        more: true,
-        outcome: Outcome::Failed,
-    };
+    let mut so_far: Option<(Place, Names)> = None;
     for _ in 0..3 {
-        if !s.more {
+        let Some(p) = difference(rt, r, from)? else {
             break;
-        }
-        s = turn(rt, a_name, a, b_name, b, s);
+        };
+        let Some(n) = named(rt, r, p)? else {
+            return Ok(Outcome::Differ(p));
+        };
+        from = p.further(
+            1,
+            (n.a as u64).wrapping_add(1),
+            (n.b as u64).wrapping_add(1),
+        );
+        so_far = Some(joined(so_far, p, n.names));
     }
-    s.outcome
+    Ok(match so_far {
+        None => Outcome::Equal,
+        Some((first, names)) => Outcome::Names(first, names),
+    })
 }

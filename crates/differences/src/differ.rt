@@ -1,15 +1,34 @@
 // Where two reports differ: the first line that is not the same in both, before their last lines.
 use console::told::Errors;
-use files::file::{further, window};
+use files::file::{Unread, window};
 use reports::text::{common, count_ends};
-use scan::part::part;
 use std::fs::File;
 
-// A report that is open, and where its last line starts.
+// A report that is open: what to call it, and where its last line starts.
 #[derive(Clone, Copy)]
 pub struct Report<'a> {
+    pub name: &'a [u8],
     pub file: &'a File,
     pub last: u64,
+}
+
+impl Report<'_> {
+    // Its bytes from a place on, before its last line, as many as one read puts at the start of a buffer.
+    pub fn bytes<'b>(
+        &self,
+        rt: &impl Errors,
+        at: u64,
+        into: &'b mut [u8],
+    ) -> Result<&'b [u8], Unread> {
+        window(rt, self.name, self.file, at, self.last, into)
+    }
+}
+
+// The two reports that are compared.
+#[derive(Clone, Copy)]
+pub struct Pair<'a> {
+    pub a: Report<'a>,
+    pub b: Report<'a>,
 }
 
 // A line: its number, and where it starts in each report.
@@ -20,137 +39,81 @@ pub struct Place {
     pub b: u64,
 }
 
-// What two reports come to from a place on.
-#[derive(Clone, Copy)]
-pub enum Found {
-    Same,
-    At(Place),
-    Failed,
+impl Place {
+    // So many lines on, and so many bytes in each report.
+    pub fn further(self, lines: u64, a: u64, b: u64) -> Place {
+        Place {
+            line: self.line.wrapping_add(lines),
+            a: self.a.wrapping_add(a),
+            b: self.b.wrapping_add(b),
+        }
+    }
 }
 
-// How far two reports were compared: the line that was reached, how many of its bytes are the same, whether more is to be compared, and
-// whether a read failed.
+// How far two reports were compared: the line that was reached, and how many of its bytes are the same.
 #[derive(Clone, Copy)]
 struct Walk {
-    line: u64,
-    a: u64,
-    b: u64,
+    line: Place,
     same: u64,
-    more: bool,
-    failed: bool,
-}
-
-// No more is to be compared.
-fn stopped(w: Walk, failed: bool) -> Walk {
-    Walk {
-        line: w.line,
-        a: w.a,
-        b: w.b,
-        same: w.same,
-        more: false,
-        failed: failed,
-    }
 }
 
 // With more bytes that are the same.
 fn walked(w: Walk, bytes: &[u8]) -> Walk {
     let e = count_ends(bytes);
-    let behind = e.behind;
     if e.lines == 0 {
         return Walk {
             line: w.line,
-            a: w.a,
-            b: w.b,
-            same: further(w.same, bytes.len() as u64),
-            more: true,
-            failed: false,
+            same: w.same.wrapping_add(bytes.len() as u64),
         };
     }
-    let on = further(w.same, behind as u64);
+    let on = w.same.wrapping_add(e.behind as u64);
     Walk {
-        line: further(w.line, e.lines),
-        a: further(w.a, on),
-        b: further(w.b, on),
-        same: (bytes.len() - behind) as u64,
-        more: true,
-        failed: false,
+        line: w.line.further(e.lines, on, on),
+        same: (bytes.len() - e.behind) as u64,
     }
 }
 
-// Compares what one read of each report brings.
-fn turn(
-    rt: &impl Errors,
-    a_name: &[u8],
-    a: Report<'_>,
-    b_name: &[u8],
-    b: Report<'_>,
-    w: Walk,
-) -> Walk {
-    let i = further(w.a, w.same);
-    let j = further(w.b, w.same);
-    if a.last <= i || b.last <= j {
-        return stopped(w, false);
+// Compares what one read of each report brings: how far they are the same, or none if they are no further.
+fn turn(rt: &impl Errors, r: Pair<'_>, w: Walk) -> Result<Option<Walk>, Unread> {
+    let i = w.line.a.wrapping_add(w.same);
+    let j = w.line.b.wrapping_add(w.same);
+    if r.a.last <= i || r.b.last <= j {
+        return Ok(None);
     }
     let mut x = [0u8; 65536];
-    let n = window(rt, a_name, a.file, i, a.last, &mut x);
+    let of_a = r.a.bytes(rt, i, &mut x);
     let mut y = [0u8; 65536];
-    let m = window(rt, b_name, b.file, j, b.last, &mut y);
-    if n == 0 || m == 0 {
-        return stopped(w, true);
-    }
-    let k = common(part(&x, 0, n), part(&y, 0, m));
+    let of_b = r.b.bytes(rt, j, &mut y);
+    let text = of_a?;
+    let k = common(text, of_b?);
     if k == 0 {
-        return stopped(w, false);
+        return Ok(None);
     }
-    walked(w, part(&x, 0, k))
+    Ok(Some(walked(w, &text[..k])))
 }
 
 // Compares two reports as far as they are the same. A proved loop has to end, so it counts its turns up to a number that no run
 // reaches.
-fn walk_on(
-    rt: &impl Errors,
-    a_name: &[u8],
-    a: Report<'_>,
-    b_name: &[u8],
-    b: Report<'_>,
-    from: Place,
-) -> Walk {
+fn walk_on(rt: &impl Errors, r: Pair<'_>, from: Place) -> Result<Walk, Unread> {
     let mut w = Walk {
-        line: from.line,
-        a: from.a,
-        b: from.b,
+        line: from,
         same: 0,
-        more: true,
-        failed: false,
     };
     for _ in 0..u64::MAX {
-        if !w.more {
-            break;
+        match turn(rt, r, w)? {
+            Some(further) => w = further,
+            None => break,
         }
-        w = turn(rt, a_name, a, b_name, b, w);
     }
-    w
+    Ok(w)
 }
 
-// The first line from a place on that is not the same in both.
-pub fn difference(
-    rt: &impl Errors,
-    a_name: &[u8],
-    a: Report<'_>,
-    b_name: &[u8],
-    b: Report<'_>,
-    from: Place,
-) -> Found {
-    let w = walk_on(rt, a_name, a, b_name, b, from);
-    if w.failed {
-        return Found::Failed;
+// The first line from a place on that is not the same in both; none if all are.
+pub fn difference(rt: &impl Errors, r: Pair<'_>, from: Place) -> Result<Option<Place>, Unread> {
+    let p = walk_on(rt, r, from)?.line;
+    if p.a == r.a.last && p.b == r.b.last {
+        Ok(None)
+    } else {
+        Ok(Some(p))
     }
-    if w.a == a.last && w.b == b.last {
-        return Found::Same;
-    }
-    Found::At(Place {
-        line: w.line,
-        a: w.a,
-        b: w.b,
-    })
 }

@@ -8,21 +8,20 @@ mod show;
 use console::file::open_read;
 use console::report::settled;
 use console::told::{Errors, FAILED, hand_over};
-use differences::differ::Report;
+use differences::differ::{Pair, Report};
 use files::tell::{tell_argument, tell_failed};
-use files::whole::{Whole, look};
+use files::whole::look;
 use scan::part::part;
-use show::{Shown, failed, show};
+use show::{Shown, show};
 use std::fs::File;
 use std::io;
 use std::rt::{Env, Files};
 
-// An argument in a buffer, if it fits: what is wrong is told.
-#[derive(Clone, Copy)]
-struct Argument {
-    n: usize,
-    good: bool,
-}
+// Nothing can be compared, and nothing is shown.
+const FAILURE: Shown = Shown {
+    at: 0,
+    verdict: FAILED,
+};
 
 // A report that is open, and where its last line starts.
 #[derive(Drop)]
@@ -31,13 +30,24 @@ struct OpenReport {
     last: u64,
 }
 
-// Takes an argument.
-fn given(rt: &(impl Env + Errors), i: usize, into: &mut [u8]) -> Argument {
+impl OpenReport {
+    // The report as it is compared.
+    fn lent<'a>(&'a self, name: &'a [u8]) -> Report<'a> {
+        Report {
+            name,
+            file: &self.file,
+            last: self.last,
+        }
+    }
+}
+
+// An argument, put at the start of a buffer, if it fits: else what is wrong is told.
+fn given<'b>(rt: &(impl Env + Errors), i: usize, into: &'b mut [u8]) -> Option<&'b [u8]> {
     match rt.arg(i, into) {
-        Ok(n) => Argument { n: n, good: true },
+        Ok(n) => Some(part(into, 0, n)),
         Err(e) => {
             tell_argument(rt, i, e);
-            Argument { n: 0, good: false }
+            None
         }
     }
 }
@@ -45,11 +55,7 @@ fn given(rt: &(impl Env + Errors), i: usize, into: &mut [u8]) -> Argument {
 // Opens the report that an argument names: none if it cannot be opened, which is told.
 fn open<R: Env + Errors + Files<File = File>>(rt: &R, i: usize, name: &[u8]) -> Option<File> {
     let mut path = [0u8; 4096];
-    let g = given(rt, i, &mut path);
-    if !g.good {
-        return None;
-    }
-    match open_read(rt, part(&path, 0, g.n)) {
+    match open_read(rt, given(rt, i, &mut path)?) {
         Ok(file) => Some(file),
         Err(e) => {
             tell_failed(rt, name, e);
@@ -66,10 +72,7 @@ fn opened<R: Env + Errors + Files<File = File>>(
 ) -> Option<OpenReport> {
     let file = open(rt, i, name)?;
     match look(rt, name, &file) {
-        Whole::Last(last) if last > 0 => Some(OpenReport {
-            file: file,
-            last: last,
-        }),
+        Ok(last) if last > 0 => Some(OpenReport { file, last }),
         _ => None,
     }
 }
@@ -91,30 +94,7 @@ fn written(rt: &(impl Errors + Files + Print), out: &[u8], s: Shown) -> u64 {
     }
 }
 
-// A report that is open, as it is compared.
-fn report_of(r: &OpenReport) -> Report<'_> {
-    Report {
-        file: &r.file,
-        last: r.last,
-    }
-}
-
-// Compares the reports, if both are whole.
-fn answered(
-    rt: &impl Errors,
-    out: &mut [u8],
-    a_name: &[u8],
-    a: &Option<OpenReport>,
-    b_name: &[u8],
-    b: &Option<OpenReport>,
-) -> Shown {
-    match (a, b) {
-        (Some(x), Some(y)) => show(rt, out, a_name, report_of(x), b_name, report_of(y)),
-        _ => failed(),
-    }
-}
-
-// Looks at both reports, compares them, and writes the answer.
+// Looks at both reports, compares them if both are whole, and writes the answer.
 fn compared<R: Env + Errors + Files<File = File> + Print>(
     rt: &R,
     a_name: &[u8],
@@ -123,7 +103,16 @@ fn compared<R: Env + Errors + Files<File = File> + Print>(
     let a = opened(rt, 1, a_name);
     let b = opened(rt, 3, b_name);
     let mut out = [0u8; 65536];
-    let s = answered(rt, &mut out, a_name, &a, b_name, &b);
+    let s = match (&a, &b) {
+        (Some(x), Some(y)) => {
+            let r = Pair {
+                a: x.lent(a_name),
+                b: y.lent(b_name),
+            };
+            show(rt, &mut out, r).unwrap_or(FAILURE)
+        }
+        _ => FAILURE,
+    };
     written(rt, &out, s)
 }
 
@@ -133,10 +122,10 @@ fn verdict<R: Env + Errors + Files<File = File> + Print>(rt: &R) -> u64 {
     let a = given(rt, 2, &mut a_name);
     let mut b_name = [0u8; 4096];
     let b = given(rt, 4, &mut b_name);
-    if !a.good || !b.good {
-        return FAILED;
+    match (a, b) {
+        (Some(x), Some(y)) => compared(rt, x, y),
+        _ => FAILED,
     }
-    compared(rt, part(&a_name, 0, a.n), part(&b_name, 0, b.n))
 }
 
 fn main(rt: HostRuntime) {

@@ -4,60 +4,34 @@ use console::told::Errors;
 use std::fs::File;
 use std::os::unix::fs::FileExt;
 
-// So much further on.
-pub fn further(at: u64, n: u64) -> u64 {
-    at.wrapping_add(n)
-}
+// Bytes that could not be read, which was told.
+#[derive(Clone, Copy, PartialEq, Eq)]
+pub struct Unread;
 
-// A place as the system takes it.
-fn offset(at: u64) -> i64 {
-    if at < 0x7FFFFFFFFFFFFFFF {
-        at as i64
-    } else {
-        0x7FFFFFFFFFFFFFFF
-    }
-}
+// The last place that the system takes.
+const LAST_PLACE: u64 = 0x7FFFFFFFFFFFFFFF;
 
-// A place as the system answers it; 0 for a negative number.
-pub fn place_of(offset: i64) -> u64 {
-    if offset < 0 {
-        return 0;
-    }
-    offset as u64
-}
-
-// So many bytes, or as many as lie before `stop`.
-fn before(n: usize, at: u64, stop: u64) -> usize {
-    if stop < at {
-        return 0;
-    }
-    let left = stop - at;
-    if left < n as u64 {
-        return left as usize;
-    }
-    n
-}
-
-// Puts bytes of a file from `at` on, but none from `stop` on, at the start of a buffer. Answers how many; none are there to be read if the
-// read fails or the file was cut, which is told.
-pub fn window(
+// The bytes of a file from `at` on, but none from `stop` on, as many as one read puts at the start of a buffer: one at least, or none were
+// read, since the read failed or the file was cut.
+pub fn window<'b>(
     rt: &impl Errors,
     name: &[u8],
     file: &File,
     at: u64,
     stop: u64,
-    bytes: &mut [u8],
-) -> usize {
-    match file.read_at(bytes, place_of(offset(at))) {
+    bytes: &'b mut [u8],
+) -> Result<&'b [u8], Unread> {
+    match file.read_at(bytes, at.min(LAST_PLACE)) {
         Err(e) => {
             tell_failed(rt, name, e);
-            0
+            Err(Unread)
         }
         Ok(n) => {
             if n == 0 {
                 tell(rt, name, b" became shorter while it was read");
             }
-            before(n, at, stop)
+            let n = (n as u64).min(stop.saturating_sub(at)) as usize;
+            if n == 0 { Err(Unread) } else { Ok(&bytes[..n]) }
         }
     }
 }

@@ -1,4 +1,4 @@
-// Messages of failures, on standard error.
+// Messages of failures, on standard error. What a report is called need not be text, so they are put together as bytes.
 use console::told::{Errors, put_reason};
 use scan::part::part;
 use std::env::FillError;

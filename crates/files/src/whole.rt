@@ -1,220 +1,145 @@
 // Whether a file is a whole report: its first line names a program, and its last line has the number of the bytes before it.
-use super::file::{further, window};
+use super::file::{Unread, window};
 use super::tell::{tell, tell_changed, tell_failed};
 use console::told::Errors;
 use reports::kind::{Kind, kind_of};
-use reports::text::{count_ends, first_line, starts};
+use reports::text::{count_ends, first_line};
 use scan::decimal::{Decimal, digits};
 use scan::part::{byte_at, part};
 use std::fs::File;
 use std::io::{Seek, SeekFrom};
 use std::os::unix::fs::FileExt;
 
-// What a file is: a report, and where its last line starts; nothing that can be read, which was told; no report; one whose last line has
-// no number; or one whose number and whose bytes differ.
-#[derive(Clone, Copy)]
-pub enum Whole {
-    Last(u64),
+// Why a file is no whole report: nothing could be read, which was told; it is no report; its last line has no number; or its number and
+// that of its bytes differ.
+#[derive(Clone, Copy, PartialEq, Eq)]
+pub enum Wrong {
     Unread,
     Foreign,
     Cut,
     Changed(u64, u64),
 }
 
-// The number of a last line.
-#[derive(Clone, Copy)]
-enum Number {
-    Is(u64),
-    Absent,
+impl From<Unread> for Wrong {
+    fn from(_e: Unread) -> Wrong {
+        Wrong::Unread
+    }
 }
-
-// The bytes of a last line before its number.
-const BEFORE: usize = 23;
 
 // How many bytes a last line can have.
 const LAST: u64 = 34;
 
 // The number that digits have, if nothing stands behind them and no zero before them.
-fn plain_number(s: &[u8]) -> Number {
-    if byte_at(s, 0) == 0x30 && s.len() > 1 {
-        return Number::Absent;
+fn plain_number(s: &[u8]) -> Option<u64> {
+    if byte_at(s, 0) == b'0' && s.len() > 1 {
+        return None;
     }
     match digits(s, 0) {
-        Decimal::Value(n, e) => {
-            if e == s.len() {
-                return Number::Is(n);
-            }
-            Number::Absent
-        }
-        Decimal::Absent => Number::Absent,
-        Decimal::TooLarge => Number::Absent,
+        Decimal::Value(n, e) if e == s.len() => Some(n),
+        _ => None,
     }
 }
 
-// The number that a line says.
-fn number_of(line: &[u8]) -> Number {
-    if starts(line, b"number of this report: ") {
-        return plain_number(part(line, BEFORE, line.len()));
-    }
-    Number::Absent
-}
-
-// A text without a newline at its end.
-fn unended(s: &[u8]) -> &[u8] {
-    let n = s.len();
-    if n > 0 && byte_at(s, n - 1) == 0x0A {
-        return part(s, 0, n - 1);
-    }
-    s
-}
-
-// Whether the first line of a text ends with a carriage return.
-fn has_return(s: &[u8]) -> bool {
-    let line = first_line(s);
-    let n = line.len();
-    n > 0 && byte_at(line, n - 1) == 0x0D
+// The number that a last line says.
+fn number_of(line: &[u8]) -> Option<u64> {
+    plain_number(line.strip_prefix(b"number of this report: ")?)
 }
 
 // Whether a file that starts with these bytes is a report.
 fn is_report(s: &[u8]) -> bool {
-    match kind_of(s) {
-        Kind::Exsheet => true,
-        Kind::Checklist => true,
-        _ => false,
-    }
-}
-
-// The sum of the bytes of a file that come before `stop`, as far as it was made.
-#[derive(Clone, Copy)]
-struct Sum {
-    crc: u64,
-    at: u64,
-    more: bool,
-}
-
-// Adds what one read brings.
-fn sum_turn(rt: &impl Errors, name: &[u8], file: &File, stop: u64, s: Sum) -> Sum {
-    let mut bytes = [0u8; 65536];
-    let n = window(rt, name, file, s.at, stop, &mut bytes);
-    if n == 0 {
-        return Sum {
-            crc: s.crc,
-            at: s.at,
-            more: false,
-        };
-    }
-    let at = further(s.at, n as u64);
-    Sum {
-        crc: crc::more(s.crc, part(&bytes, 0, n)),
-        at: at,
-        more: at < stop,
-    }
+    matches!(kind_of(s), Kind::Exsheet | Kind::Checklist)
 }
 
 // The sum of the bytes before `stop`. A proved loop has to end, so it counts its turns up to a number that no run
 // reaches.
-fn sum_before(rt: &impl Errors, name: &[u8], file: &File, stop: u64) -> Sum {
-    let mut s = Sum {
-        crc: crc::start(),
-        at: 0,
-        more: true,
-    };
+fn sum_before(rt: &impl Errors, name: &[u8], file: &File, stop: u64) -> Result<u64, Unread> {
+    let mut bytes = [0u8; 65536];
+    let mut crc = crc::start();
+    let mut at: u64 = 0;
     for _ in 0..u64::MAX {
-        if !s.more {
+        if stop <= at {
             break;
         }
-        s = sum_turn(rt, name, file, stop, s);
+        let text = window(rt, name, file, at, stop, &mut bytes)?;
+        crc = crc::more(crc, text);
+        at = at.wrapping_add(text.len() as u64);
     }
-    s
+    Ok(crc::end(crc))
 }
 
-// A report with a number, by the sum of the bytes before its last line.
-fn by_sum(rt: &impl Errors, name: &[u8], file: &File, last: u64, number: u64) -> Whole {
-    let s = sum_before(rt, name, file, last);
-    if s.at < last {
-        return Whole::Unread;
-    }
-    let sum = crc::end(s.crc);
+// Where the last line of a report starts, by the bytes at its end, which start at `at`.
+fn by_end(rt: &impl Errors, name: &[u8], file: &File, at: u64, bytes: &[u8]) -> Result<u64, Wrong> {
+    let text = bytes.strip_suffix(b"\n").unwrap_or(bytes);
+    let behind = count_ends(text).behind;
+    let number = number_of(&text[behind..]).ok_or(Wrong::Cut)?;
+    let last = at.wrapping_add(behind as u64);
+    let sum = sum_before(rt, name, file, last)?;
     if sum == number {
-        return Whole::Last(last);
-    }
-    Whole::Changed(number, sum)
-}
-
-// A report by the bytes at its end, which start at `at`.
-fn by_end(rt: &impl Errors, name: &[u8], file: &File, at: u64, bytes: &[u8]) -> Whole {
-    let text = unended(bytes);
-    let e = count_ends(text);
-    let behind = e.behind;
-    match number_of(part(text, behind, text.len())) {
-        Number::Is(n) => by_sum(rt, name, file, further(at, behind as u64), n),
-        Number::Absent => Whole::Cut,
+        Ok(last)
+    } else {
+        Err(Wrong::Changed(number, sum))
     }
 }
 
-// A report of so many bytes. Its last line is looked for where the longest one would start, and a newline before it.
-fn by_size(rt: &impl Errors, name: &[u8], file: &File, size: u64) -> Whole {
-    let mut at: u64 = 0;
-    if size > LAST + 1 {
-        at = size - LAST - 1;
-    }
+// The same of a report of so many bytes. Its last line is looked for where the longest one would start, and a newline before it.
+fn by_size(rt: &impl Errors, name: &[u8], file: &File, size: u64) -> Result<u64, Wrong> {
+    let at = size.saturating_sub(LAST + 1);
     let mut bytes = [0u8; 4096];
-    let n = window(rt, name, file, at, size, &mut bytes);
-    if n == 0 {
-        return Whole::Unread;
-    }
-    by_end(rt, name, file, at, part(&bytes, 0, n))
+    let text = window(rt, name, file, at, size, &mut bytes)?;
+    by_end(rt, name, file, at, text)
 }
 
-// A file whose first bytes are those of a report.
-fn by_file(rt: &impl Errors, name: &[u8], file: &File) -> Whole {
+// The same of a file that starts with these bytes.
+fn by_start(rt: &impl Errors, name: &[u8], file: &File, start: &[u8]) -> Result<u64, Wrong> {
+    if !is_report(start) {
+        return Err(Wrong::Foreign);
+    }
     let mut handle = file;
     match handle.seek(SeekFrom::End(0)) {
         Err(e) => {
             tell_failed(rt, name, e);
-            Whole::Unread
+            Err(Wrong::Unread)
         }
         Ok(size) => by_size(rt, name, file, size),
     }
 }
 
-// Tells what is wrong with a file that starts with these bytes, if anything is.
-fn told(rt: &impl Errors, name: &[u8], start: &[u8], w: Whole) -> Whole {
+// Tells what is wrong with a file that starts with these bytes.
+fn tell_wrong(rt: &impl Errors, name: &[u8], start: &[u8], w: Wrong) {
     match w {
-        Whole::Last(last) => return Whole::Last(last),
-        Whole::Unread => return Whole::Unread,
-        Whole::Foreign => tell(rt, name, b" is not a report of exsheet or checklist"),
-        Whole::Cut => tell(
+        Wrong::Unread => return,
+        Wrong::Foreign => tell(rt, name, b" is not a report of exsheet or checklist"),
+        Wrong::Cut => tell(
             rt,
             name,
             b" is not a whole report: its last line has no number",
         ),
-        Whole::Changed(number, sum) => tell_changed(rt, name, number, sum),
+        Wrong::Changed(number, sum) => tell_changed(rt, name, number, sum),
     }
-    if has_return(start) {
+    if first_line(start).ends_with(b"\r") {
         tell(
             rt,
             name,
             b" has carriage returns: it was changed on its way",
         );
     }
-    w
 }
 
-// Looks at a whole file, and tells what is wrong with it.
-pub fn look(rt: &impl Errors, name: &[u8], file: &File) -> Whole {
+// Looks at a whole file: where its last line starts, or what is wrong with it, which is told.
+pub fn look(rt: &impl Errors, name: &[u8], file: &File) -> Result<u64, Wrong> {
     let mut bytes = [0u8; 65536];
     match file.read_at(&mut bytes, 0) {
         Err(e) => {
             tell_failed(rt, name, e);
-            Whole::Unread
+            Err(Wrong::Unread)
         }
         Ok(n) => {
             let start = part(&bytes, 0, n);
-            if is_report(start) {
-                return told(rt, name, start, by_file(rt, name, file));
+            let found = by_start(rt, name, file, start);
+            if let Err(w) = found {
+                tell_wrong(rt, name, start, w);
             }
-            told(rt, name, start, Whole::Foreign)
+            found
         }
     }
 }

@@ -1,8 +1,8 @@
 -- The refusals of document 01, by their numbers: "Turned down because of the input", "Turned down because of the state", and 99.
 -- Assumes nothing.
-use Rattle.std.specs.Prelude.{cond, List, [], ◌∷◌, ℕ, eqb}
+use Rattle.std.specs.Prelude.{cond, List, [], ◌∷◌, ℕ, Result, Ok, Err, eqb}
 use Rattle.limits.specs.declared.refusal.Refusal.{Refusal}
-use Rattle.limits.specs.declared.refusal.Numbered.{Numbered}
+use Rattle.limits.specs.declared.refusal.NoRefusal.{NoRefusal}
 
 abbrev pub refusal_no : Refusal → ℕ
 refusal_no Refusal.LineTooLong = 1
@@ -28,13 +28,13 @@ refusals =
     Refusal.Unimplemented ∷ Refusal.StoreTooShort ∷ Refusal.AliasesFull ∷ Refusal.NotASession ∷ []
 
 -- the refusal among these that has the number n
-abbrev pub among : ℕ → List Refusal → Numbered
-among n [] = Numbered.Unused
-among n (x ∷ xs) = cond (eqb n (refusal_no x)) (Numbered.Refused x) (among n xs)
+abbrev pub among : ℕ → List Refusal → Result Refusal NoRefusal
+among n [] = Err (record { number = n })
+among n (x ∷ xs) = cond {A = Result Refusal NoRefusal} (eqb n (refusal_no x)) (Ok x) (among n xs)
 
--- what a number says of a call: 0 that it was not refused
-unfoldable pub refusal_of : ℕ → Numbered
-refusal_of n = cond (eqb n 0) Numbered.Accepted (among n refusals)
+-- the refusal that a number stands for: none for 0, which a call answers that was not refused
+unfoldable pub refusal_of : ℕ → Result Refusal NoRefusal
+refusal_of n = among n refusals
 
 -- the place of a refusal among all
 abbrev pub place_of : Refusal → ℕ

@@ -1,13 +1,12 @@
 -- Laws of the refusals' numbers: a case that is not among all of them, or has another's number or place, is refused here.
 -- Assumes nothing.
-use Rattle.std.specs.Prelude.{◌≡◌, refl, List, [], ◌∷◌, ℕ, suc, ◌≤◌, length}
+use Rattle.std.specs.Prelude.{◌≡◌, refl, List, [], ◌∷◌, ℕ, suc, ◌≤◌, length, Ok}
 use Rattle.std.proofs.Common.{arith}
 use Rattle.limits.specs.Refusals.{refusal_no, refusals, refusal_of, place_of}
 use Rattle.limits.specs.declared.refusal.Refusal.{Refusal}
-use Rattle.limits.specs.declared.refusal.Numbered.{Numbered}
 
 -- each number is its refusal's alone, and 0 is none's
-pub refusal_back : (x : Refusal) → refusal_of (refusal_no x) ≡ Numbered.Refused x
+pub refusal_back : (x : Refusal) → refusal_of (refusal_no x) ≡ Ok x
 unfolding refusal_of
 refusal_back Refusal.LineTooLong = refl
 refusal_back Refusal.NotUtf8 = refl

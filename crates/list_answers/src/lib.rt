@@ -6,132 +6,101 @@ use limits::{LINE, STORE};
 use lists::option::OptionType;
 use reading::alone::{FilenameType, FilenamesReply, OptionsReply, StringsReply};
 use scan::part::part;
-use vectors::{put_name, put_number, put_refusal, put_two};
+use vectors::answer::Answer;
+use vectors::op::List;
 
-// One item of a list, read by its place: the answer so far, and whether there was such an item.
-#[derive(Clone, Copy)]
-struct ItemTurn {
-    n: usize,
-    more: bool,
+fn put_filename(out: &mut Answer, t: FilenameType, store: &[u8]) {
+    match t {
+        FilenameType::Alternate => out.put_number(0),
+        FilenameType::Current => out.put_number(1),
+        FilenameType::Name(m) => {
+            out.put_number(2);
+            out.put_name(part(store, 0, m));
+        }
+    }
 }
 
-fn put_filename(out: &mut [u8], n: usize, t: FilenameType, store: &[u8]) -> usize {
-    match t {
-        FilenameType::Alternate => put_number(out, n, 0),
-        FilenameType::Current => put_number(out, n, 1),
-        FilenameType::Name(m) => {
-            let k = put_number(out, n, 2);
-            put_name(out, k, part(store, 0, m))
+fn put_option(out: &mut Answer, o: OptionType, store: &[u8]) {
+    match o {
+        OptionType::Positional(k) => {
+            out.put_number(0);
+            out.put_name(part(store, 0, k));
+        }
+        OptionType::Flag(k) => {
+            out.put_number(1);
+            out.put_name(part(store, 0, k));
+        }
+        OptionType::FlagValue(k, v) => {
+            out.put_number(2);
+            out.put_name(part(store, 0, k));
+            out.put_name(part(part(store, k, store.len()), 0, v));
         }
     }
 }
 
 // The class and the count come first.
-fn put_head(out: &mut [u8], n: usize, place: usize, count: usize) -> usize {
+fn put_head(out: &mut Answer, place: usize, count: usize) {
     if place == 0 {
-        return put_two(out, 0, 0, count as u64);
+        out.put_two(0, count as u64);
     }
-    n
 }
 
-fn filename_turn(text: &[u8], place: usize, out: &mut [u8], n: usize) -> ItemTurn {
+// The item of a list at a place, and whether there is one. What `reading` answers has a type for each kind of list, so each has a function.
+fn put_filename_at(out: &mut Answer, text: &[u8], place: usize) -> bool {
     let mut store = [0u8; STORE];
     match reading::alone::filenames(text, place, &mut store) {
-        FilenamesReply::Refused(x) => ItemTurn {
-            n: put_refusal(out, x),
-            more: false,
-        },
-        FilenamesReply::Beyond(count) => ItemTurn {
-            n: put_head(out, n, place, count),
-            more: false,
-        },
+        FilenamesReply::Refused(x) => out.refuse(x),
+        FilenamesReply::Beyond(count) => put_head(out, place, count),
         FilenamesReply::Item(count, t) => {
-            let m = put_head(out, n, place, count);
-            ItemTurn {
-                n: put_filename(out, m, t, &store),
-                more: true,
-            }
+            put_head(out, place, count);
+            put_filename(out, t, &store);
+            return true;
         }
     }
+    false
 }
 
-fn string_turn(text: &[u8], place: usize, out: &mut [u8], n: usize) -> ItemTurn {
+fn put_string_at(out: &mut Answer, text: &[u8], place: usize) -> bool {
     let mut store = [0u8; STORE];
     match reading::alone::strings(text, place, &mut store) {
-        StringsReply::Refused(x) => ItemTurn {
-            n: put_refusal(out, x),
-            more: false,
-        },
-        StringsReply::Beyond(count) => ItemTurn {
-            n: put_head(out, n, place, count),
-            more: false,
-        },
+        StringsReply::Refused(x) => out.refuse(x),
+        StringsReply::Beyond(count) => put_head(out, place, count),
         StringsReply::Item(count, k) => {
-            let m = put_head(out, n, place, count);
-            ItemTurn {
-                n: put_name(out, m, part(&store, 0, k)),
-                more: true,
-            }
+            put_head(out, place, count);
+            out.put_name(part(&store, 0, k));
+            return true;
         }
     }
+    false
 }
 
-fn put_option(out: &mut [u8], n: usize, o: OptionType, store: &[u8]) -> usize {
-    match o {
-        OptionType::Positional(k) => {
-            let m = put_number(out, n, 0);
-            put_name(out, m, part(store, 0, k))
-        }
-        OptionType::Flag(k) => {
-            let m = put_number(out, n, 1);
-            put_name(out, m, part(store, 0, k))
-        }
-        OptionType::FlagValue(k, v) => {
-            let m = put_number(out, n, 2);
-            let j = put_name(out, m, part(store, 0, k));
-            put_name(out, j, part(part(store, k, store.len()), 0, v))
-        }
-    }
-}
-
-fn option_turn(text: &[u8], place: usize, out: &mut [u8], n: usize) -> ItemTurn {
+fn put_option_at(out: &mut Answer, text: &[u8], place: usize) -> bool {
     let mut store = [0u8; STORE];
     match reading::alone::options(text, place, &mut store) {
-        OptionsReply::Refused(x) => ItemTurn {
-            n: put_refusal(out, x),
-            more: false,
-        },
-        OptionsReply::Beyond(count) => ItemTurn {
-            n: put_head(out, n, place, count),
-            more: false,
-        },
+        OptionsReply::Refused(x) => out.refuse(x),
+        OptionsReply::Beyond(count) => put_head(out, place, count),
         OptionsReply::Item(count, o) => {
-            let m = put_head(out, n, place, count);
-            ItemTurn {
-                n: put_option(out, m, o, &store),
-                more: true,
-            }
+            put_head(out, place, count);
+            put_option(out, o, &store);
+            return true;
         }
     }
+    false
 }
 
-fn list_turn(op: u8, text: &[u8], place: usize, out: &mut [u8], n: usize) -> ItemTurn {
-    if op == 4 {
-        return filename_turn(text, place, out, n);
+fn put_item_at(list: List, out: &mut Answer, text: &[u8], place: usize) -> bool {
+    match list {
+        List::Filenames => put_filename_at(out, text, place),
+        List::Strings => put_string_at(out, text, place),
+        List::Options => put_option_at(out, text, place),
     }
-    if op == 5 {
-        return string_turn(text, place, out, n);
-    }
-    option_turn(text, place, out, n)
 }
 
 // A list, item by item, and once more past its last place.
-pub fn answer_list(op: u8, text: &[u8], out: &mut [u8]) -> usize {
-    let mut t = ItemTurn { n: 0, more: true };
-    let mut place: usize = 0;
-    while place <= LINE && t.more {
-        t = list_turn(op, text, place, out, t.n);
-        place += 1;
+pub fn answer_list(list: List, text: &[u8], out: &mut Answer) {
+    for place in 0..LINE + 1 {
+        if !put_item_at(list, out, text, place) {
+            break;
+        }
     }
-    t.n
 }

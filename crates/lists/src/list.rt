@@ -1,7 +1,6 @@
 // Argument lists: the items of a text, split at spaces.
 // Beside parse_string, parse_strings, parse_filenames and OptionType::from_str of parse.rs.
 ghost use Rattle.std.specs.Prelude.{◌≡◌, false, ◌&&◌, ◌||◌, ◌+◌};
-ghost use Rattle.scan.specs.Bytes.{Classes};
 ghost use Rattle.store.specs.Sevens.{named};
 ghost use Rattle.store.specs.Splice.{Put, Room};
 ghost use Rattle.lists.specs.Lists.{item_of as item_from, item_at, text_at, items_at, lone as lone_of, keyless as keyless_text};
@@ -58,15 +57,14 @@ pub fn item_of(i: usize, d: usize, e: TextEnd) -> TextEnd
 }
 
 // Where the item at `at` ends.
-pub fn item_end(s: &[u8], at: usize, classes: &[u8; 256]) -> TextEnd
-    requires { Classes classes.now }
+pub fn item_end(s: &[u8], at: usize) -> TextEnd
     ensures { result ≡ item_at s.now at }
 {
     if byte_at(s, at) == 0x22 {
         let q = at + 1;
-        return item_of(q, 1, text_end(s, q, true, classes));
+        return item_of(q, 1, text_end(s, q, true));
     }
-    item_of(at, 0, text_end(s, at, false, classes))
+    item_of(at, 0, text_end(s, at, false))
 }
 
 // Whether an item is the byte `b` alone.
@@ -83,23 +81,21 @@ pub fn lone(s: &[u8], x: Item, b: u8) -> bool
 }
 
 // Writes the bytes that the item at `at` stands for from place `to` on, and answers the place after them.
-pub fn copy_item(s: &[u8], at: usize, classes: &[u8; 256], store: &mut [u8], to: usize) -> usize
-    requires classes { Classes classes.now }
-    requires room { Room store.old to (text_at s.now at) }
+pub fn copy_item(s: &[u8], at: usize, store: &mut [u8], to: usize) -> usize
+    requires { Room store.old to (text_at s.now at) }
     ensures { Put store.old store.new to result (text_at s.now at) }
 {
     let t = item_text(s, at);
-    copy_text(s, t.from, t.quoted, classes, store, to)
+    copy_text(s, t.from, t.quoted, store, to)
 }
 
 // Writes the item at `at` as a name: how many bytes it stands for, and these.
-pub fn put_item(s: &[u8], at: usize, classes: &[u8; 256], store: &mut [u8], to: usize) -> usize
-    requires classes { Classes classes.now }
-    requires room { Room store.old to (named (text_at s.now at)) }
+pub fn put_item(s: &[u8], at: usize, store: &mut [u8], to: usize) -> usize
+    requires { Room store.old to (named (text_at s.now at)) }
     ensures { Put store.old store.new to result (named (text_at s.now at)) }
 {
     let t = item_text(s, at);
-    put_text(s, t.from, t.quoted, classes, store, to)
+    put_text(s, t.from, t.quoted, store, to)
 }
 
 // One more item is passed: it is the one asked for, or one of those before it, or one behind it.
@@ -119,22 +115,20 @@ fn passed(p: Picked, x: Item) -> Picked
 }
 
 // Whether the item at `at` is a flag with an empty key, where flags are looked for, or one before it was.
-fn keyless_by(s: &[u8], at: usize, flags: bool, before: bool, classes: &[u8; 256]) -> bool
-    requires { Classes classes.now }
+fn keyless_by(s: &[u8], at: usize, flags: bool, before: bool) -> bool
     ensures { result ≡ (before || (flags && keyless_text (text_at s.now at))) }
 {
     if before {
         return true;
     }
     if flags {
-        return empty_key(s, at, classes);
+        return empty_key(s, at);
     }
     false
 }
 
 // The items from the first byte on, where one must stand.
-fn items_from(s: &[u8], place: usize, flags: bool, classes: &[u8; 256]) -> ListRead
-    requires { Classes classes.now }
+fn items_from(s: &[u8], place: usize, flags: bool) -> ListRead
     ensures { result ≡ list_from s.now flags 0 false (Picked.Ahead place) (items_at s.now 0) }
 {
     let mut i: usize = 0;
@@ -142,13 +136,13 @@ fn items_from(s: &[u8], place: usize, flags: bool, classes: &[u8; 256]) -> ListR
     let mut keyless = false;
     let mut picked = Picked::Ahead(place);
     loop {
-        let TextEnd::End(j) = item_end(s, i, classes) else {
+        let TextEnd::End(j) = item_end(s, i) else {
             return ListRead::Bad;
         };
         n += 1;
-        keyless = keyless_by(s, i, flags, keyless, classes);
+        keyless = keyless_by(s, i, flags, keyless);
         picked = passed(picked, Item { start: i, end: j });
-        let k = skip_spaces(s, j, classes);
+        let k = skip_spaces(s, j);
         if k == s.len() {
             return ListRead::List(Seen {
                 count: n,
@@ -164,16 +158,15 @@ fn items_from(s: &[u8], place: usize, flags: bool, classes: &[u8; 256]) -> ListR
 }
 
 // The list that a text is: its count, the item at a place, and, where flags are looked for, whether one has an empty key.
-pub fn parse_list(s: &[u8], place: usize, flags: bool, classes: &[u8; 256]) -> ListRead
-    requires { Classes classes.now }
+pub fn parse_list(s: &[u8], place: usize, flags: bool) -> ListRead
     ensures { result ≡ list_of s.now place flags }
 {
-    if skip_spaces(s, 0, classes) == s.len() {
+    if skip_spaces(s, 0) == s.len() {
         return ListRead::List(Seen {
             count: 0,
             keyless: false,
             picked: Picked::Ahead(place),
         });
     }
-    items_from(s, place, flags, classes)
+    items_from(s, place, flags)
 }

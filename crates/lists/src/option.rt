@@ -2,7 +2,6 @@
 // Beside OptionType::from_str of parse.rs.
 ghost use Rattle.std.specs.Prelude.{◌≡◌};
 ghost use Rattle.std.proofs.lemmas.List.Edits.{sets};
-ghost use Rattle.scan.specs.Bytes.{Classes};
 ghost use Rattle.scan.specs.Scan.{byte_at};
 ghost use Rattle.store.specs.Splice.{Put, Room};
 ghost use Rattle.lists.specs.Text.{own, bytes_at};
@@ -10,7 +9,7 @@ ghost use Rattle.lists.specs.Lists.{text_at, key_of, after_key, is_empty, keyles
 ghost use Rattle.lists.specs.Listed.{Emits, Flags, OptionSeen, option_bytes};
 
 use super::text::{Escape, copy_text, escape_of, item_text};
-use scan::classes::{Kind, is_kind};
+use scan::classes::{Class, Plain, Quoted};
 use scan::part::byte_at;
 
 // An option: its kind, and the byte counts of its text, or of its key and value.
@@ -42,14 +41,13 @@ pub struct Key {
     pub next: usize,
 }
 
-fn is_own(quoted: bool, b: u8, classes: &[u8; 256]) -> bool
-    requires { Classes classes.now }
+fn is_own(quoted: bool, b: u8) -> bool
     ensures { result ≡ own quoted b }
 {
     if quoted {
-        is_kind(classes, Kind::Quoted, b)
+        Quoted::has(b)
     } else {
-        is_kind(classes, Kind::Plain, b)
+        Plain::has(b)
     }
 }
 
@@ -65,15 +63,14 @@ fn emit_escape(s: &[u8], at: usize, quoted: bool) -> Emitted
 }
 
 // The first byte that the text at `at` stands for.
-fn emit_at(s: &[u8], at: usize, quoted: bool, classes: &[u8; 256]) -> Emitted
-    requires { Classes classes.now }
+fn emit_at(s: &[u8], at: usize, quoted: bool) -> Emitted
     ensures { Emits quoted s.now at result }
 {
     if s.len() <= at {
         return Emitted::Nothing;
     }
     let b = s[at];
-    if is_own(quoted, b, classes) {
+    if is_own(quoted, b) {
         return Emitted::Byte(b, at + 1);
     }
     if b == 0x5C {
@@ -83,17 +80,16 @@ fn emit_at(s: &[u8], at: usize, quoted: bool, classes: &[u8; 256]) -> Emitted
 }
 
 // Whether the text at `at` starts with `++`.
-fn flag_start(s: &[u8], at: usize, quoted: bool, classes: &[u8; 256]) -> FlagRead
-    requires { Classes classes.now }
+fn flag_start(s: &[u8], at: usize, quoted: bool) -> FlagRead
     ensures { Flags quoted s.now at result }
 {
-    let Emitted::Byte(b, j) = emit_at(s, at, quoted, classes) else {
+    let Emitted::Byte(b, j) = emit_at(s, at, quoted) else {
         return FlagRead::Positional;
     };
     if b != 0x2B {
         return FlagRead::Positional;
     }
-    let Emitted::Byte(d, k) = emit_at(s, j, quoted, classes) else {
+    let Emitted::Byte(d, k) = emit_at(s, j, quoted) else {
         return FlagRead::Positional;
     };
     if d != 0x2B {
@@ -102,39 +98,36 @@ fn flag_start(s: &[u8], at: usize, quoted: bool, classes: &[u8; 256]) -> FlagRea
     FlagRead::Key(k)
 }
 
-fn key_is_empty(s: &[u8], at: usize, quoted: bool, classes: &[u8; 256]) -> bool
-    requires { Classes classes.now }
+fn key_is_empty(s: &[u8], at: usize, quoted: bool) -> bool
     ensures { result ≡ is_empty (key_of (bytes_at quoted s.now at)) }
 {
-    match emit_at(s, at, quoted, classes) {
+    match emit_at(s, at, quoted) {
         Emitted::Byte(b, _) => b == 0x3D,
         Emitted::Nothing => true,
     }
 }
 
 // Whether the item at `at` is a flag with an empty key.
-pub fn empty_key(s: &[u8], at: usize, classes: &[u8; 256]) -> bool
-    requires { Classes classes.now }
+pub fn empty_key(s: &[u8], at: usize) -> bool
     ensures { result ≡ keyless (text_at s.now at) }
 {
     let t = item_text(s, at);
-    match flag_start(s, t.from, t.quoted, classes) {
-        FlagRead::Key(k) => key_is_empty(s, k, t.quoted, classes),
+    match flag_start(s, t.from, t.quoted) {
+        FlagRead::Key(k) => key_is_empty(s, k, t.quoted),
         FlagRead::Positional => false,
     }
 }
 
 // Writes the key that starts at `at` to the front of the store.
-fn copy_key(s: &[u8], at: usize, quoted: bool, classes: &[u8; 256], store: &mut [u8]) -> Key
-    requires classes { Classes classes.now }
-    requires room { Room store.old 0 (key_of (bytes_at quoted s.now at)) }
+fn copy_key(s: &[u8], at: usize, quoted: bool, store: &mut [u8]) -> Key
+    requires { Room store.old 0 (key_of (bytes_at quoted s.now at)) }
     ensures put { Put store.old store.new 0 result.count (key_of (bytes_at quoted s.now at)) }
     ensures left { bytes_at quoted s.now result.next ≡ after_key (bytes_at quoted s.now at) }
 {
     let mut i = at;
     let mut n: usize = 0;
     loop {
-        let Emitted::Byte(b, j) = emit_at(s, i, quoted, classes) else {
+        let Emitted::Byte(b, j) = emit_at(s, i, quoted) else {
             return Key { count: n, next: i };
         };
         if b == 0x3D {
@@ -147,20 +140,19 @@ fn copy_key(s: &[u8], at: usize, quoted: bool, classes: &[u8; 256], store: &mut 
 }
 
 // Writes the option that the item at `at` is to the front of the store: its text, or its key and then its value.
-pub fn copy_option(s: &[u8], at: usize, classes: &[u8; 256], store: &mut [u8]) -> OptionType
-    requires classes { Classes classes.now }
-    requires room { Room store.old 0 (text_at s.now at) }
+pub fn copy_option(s: &[u8], at: usize, store: &mut [u8]) -> OptionType
+    requires { Room store.old 0 (text_at s.now at) }
     ensures kind { result ≡ OptionSeen (option_of (text_at s.now at)) }
     ensures written { store.new ≡ sets store.old 0 (option_bytes (option_of (text_at s.now at))) }
 {
     let t = item_text(s, at);
-    let FlagRead::Key(k) = flag_start(s, t.from, t.quoted, classes) else {
-        return OptionType::Positional(copy_text(s, t.from, t.quoted, classes, store, 0));
+    let FlagRead::Key(k) = flag_start(s, t.from, t.quoted) else {
+        return OptionType::Positional(copy_text(s, t.from, t.quoted, store, 0));
     };
-    let key = copy_key(s, k, t.quoted, classes, store);
-    let Emitted::Byte(_, j) = emit_at(s, key.next, t.quoted, classes) else {
+    let key = copy_key(s, k, t.quoted, store);
+    let Emitted::Byte(_, j) = emit_at(s, key.next, t.quoted) else {
         return OptionType::Flag(key.count);
     };
-    let e = copy_text(s, j, t.quoted, classes, store, key.count);
+    let e = copy_text(s, j, t.quoted, store, key.count);
     OptionType::FlagValue(key.count, e - key.count)
 }

@@ -1,7 +1,6 @@
 // The text of an item, quoted or plain.
 // Beside parse_quote and parse_text of parse.rs: runs of bytes that stand for themselves, and escapes between them.
 ghost use Rattle.std.specs.Prelude.{◌≡◌, cond, ◌+◌, ◌-◌, ◌≤◌, eqb, length};
-ghost use Rattle.scan.specs.Bytes.{Classes};
 ghost use Rattle.scan.specs.Scan.{byte_at, run_at};
 ghost use Rattle.store.specs.Sevens.{named};
 ghost use Rattle.store.specs.Splice.{Put, Room, Writing};
@@ -9,8 +8,8 @@ ghost use Rattle.lists.specs.Lists.{text_at};
 ghost use Rattle.lists.specs.TextLaws.{Escaped, Stuck};
 ghost use Rattle.lists.specs.Text.{quoted_escape, plain_escape, escape_of, own, stop_at as stop_of, text_end_at, bytes_at};
 
-use blocks::run::{RunStart, first_two, long_run_end};
-use scan::classes::Kind;
+use blocks::run::short_run_end;
+use scan::classes::{Plain, Quoted};
 use scan::part::{byte_at, part};
 use store::{put_bytes, put_number};
 
@@ -98,20 +97,15 @@ pub fn escape_of(quoted: bool, b: u8) -> Escape
 }
 
 // Past the bytes from `at` on that stand for themselves: none, or one, is told at once.
-fn own_end(s: &[u8], at: usize, quoted: bool, classes: &[u8; 256]) -> usize
-    requires { Classes classes.now }
+#[inline]
+#[tactic(auto, unfolding(crate::specs::Text::own))]
+fn own_end(s: &[u8], at: usize, quoted: bool) -> usize
     ensures { result ≡ run_at (own quoted) s.now at }
 {
     if quoted {
-        match first_two(s, at, classes, Kind::Quoted) {
-            RunStart::Ends(i) => i,
-            RunStart::GoesOn(i) => long_run_end(s, i, classes, Kind::Quoted),
-        }
+        short_run_end::<Quoted>(s, at)
     } else {
-        match first_two(s, at, classes, Kind::Plain) {
-            RunStart::Ends(i) => i,
-            RunStart::GoesOn(i) => long_run_end(s, i, classes, Kind::Plain),
-        }
+        short_run_end::<Plain>(s, at)
     }
 }
 
@@ -157,9 +151,8 @@ fn past_escapes(s: &[u8], at: usize, quoted: bool) -> Escapes
 }
 
 // Where the text at `at` ends, whose first byte is a backslash.
-fn escaped_end(s: &[u8], at: usize, quoted: bool, classes: &[u8; 256]) -> TextEnd
-    requires classes { Classes classes.now }
-    requires at_value { byte_at s.now at ≡ 0x5C }
+fn escaped_end(s: &[u8], at: usize, quoted: bool) -> TextEnd
+    requires { byte_at s.now at ≡ 0x5C }
     ensures { result ≡ text_end_at quoted s.now at }
 {
     let mut i = at;
@@ -168,7 +161,7 @@ fn escaped_end(s: &[u8], at: usize, quoted: bool, classes: &[u8; 256]) -> TextEn
             return TextEnd::Bad;
         };
         let e = past_escapes(s, i + 2, quoted);
-        let j = own_end(s, e.at, quoted, classes);
+        let j = own_end(s, e.at, quoted);
         let b = byte_at(s, j);
         if b != 0x5C {
             return stop_at(quoted, j, b);
@@ -178,36 +171,34 @@ fn escaped_end(s: &[u8], at: usize, quoted: bool, classes: &[u8; 256]) -> TextEn
 }
 
 // Where the text at `at` ends. Called at two places, `escaped_end` is compiled once, and this stays short wherever it is called.
-pub fn text_end(s: &[u8], at: usize, quoted: bool, classes: &[u8; 256]) -> TextEnd
-    requires { Classes classes.now }
+pub fn text_end(s: &[u8], at: usize, quoted: bool) -> TextEnd
     ensures { result ≡ text_end_at quoted s.now at }
 {
     if quoted {
-        let j = own_end(s, at, true, classes);
+        let j = own_end(s, at, true);
         let b = byte_at(s, j);
         if b != 0x5C {
             return stop_at(true, j, b);
         }
-        return escaped_end(s, j, true, classes);
+        return escaped_end(s, j, true);
     }
-    let j = own_end(s, at, false, classes);
+    let j = own_end(s, at, false);
     let b = byte_at(s, j);
     if b != 0x5C {
         return stop_at(false, j, b);
     }
-    escaped_end(s, j, false, classes)
+    escaped_end(s, j, false)
 }
 
 // How many bytes the text at `at` stands for.
-pub fn text_size(s: &[u8], at: usize, quoted: bool, classes: &[u8; 256]) -> usize
-    requires { Classes classes.now }
+pub fn text_size(s: &[u8], at: usize, quoted: bool) -> usize
     ensures { result ≡ length (bytes_at quoted s.now at) }
 {
     let mut i = at;
     let mut n: usize = 0;
     loop {
         let e = past_escapes(s, i, quoted);
-        let j = own_end(s, e.at, quoted, classes);
+        let j = own_end(s, e.at, quoted);
         n += e.n + (j - e.at);
         if byte_at(s, j) != 0x5C {
             return n;
@@ -244,23 +235,15 @@ fn put_escapes(s: &[u8], at: usize, quoted: bool, store: &mut [u8], to: usize) -
 }
 
 // Writes the bytes that the text at `at` stands for from place `to` on, and answers the place after them.
-pub fn copy_text(
-    s: &[u8],
-    at: usize,
-    quoted: bool,
-    classes: &[u8; 256],
-    store: &mut [u8],
-    to: usize,
-) -> usize
-    requires classes { Classes classes.now }
-    requires room { Room store.old to (bytes_at quoted s.now at) }
+pub fn copy_text(s: &[u8], at: usize, quoted: bool, store: &mut [u8], to: usize) -> usize
+    requires { Room store.old to (bytes_at quoted s.now at) }
     ensures { Put store.old store.new to result (bytes_at quoted s.now at) }
 {
     let mut i = at;
     let mut n = to;
     loop {
         let e = put_escapes(s, i, quoted, store, n);
-        let j = own_end(s, e.at, quoted, classes);
+        let j = own_end(s, e.at, quoted);
         let m = put_bytes(store, e.n, part(s, e.at, j));
         if byte_at(s, j) != 0x5C {
             return m;
@@ -274,25 +257,17 @@ pub fn copy_text(
 }
 
 // Writes the text at `at` as a name: how many bytes it stands for, and these. One without an escape is copied as it stands.
-pub fn put_text(
-    s: &[u8],
-    at: usize,
-    quoted: bool,
-    classes: &[u8; 256],
-    store: &mut [u8],
-    to: usize,
-) -> usize
-    requires classes { Classes classes.now }
-    requires room { Room store.old to (named (bytes_at quoted s.now at)) }
+pub fn put_text(s: &[u8], at: usize, quoted: bool, store: &mut [u8], to: usize) -> usize
+    requires { Room store.old to (named (bytes_at quoted s.now at)) }
     ensures { Put store.old store.new to result (named (bytes_at quoted s.now at)) }
 {
-    let j = own_end(s, at, quoted, classes);
+    let j = own_end(s, at, quoted);
     if byte_at(s, j) != 0x5C {
         let i = put_number(store, to, (j - at) as u64);
         return put_bytes(store, i, part(s, at, j));
     }
-    let n = text_size(s, j, quoted, classes);
+    let n = text_size(s, j, quoted);
     let i = put_number(store, to, (j - at + n) as u64);
     let k = put_bytes(store, i, part(s, at, j));
-    copy_text(s, j, quoted, classes, store, k)
+    copy_text(s, j, quoted, store, k)
 }

@@ -4,7 +4,7 @@ ghost use Rattle.sentences.specs.Sentences.{sentence};
 ghost use Rattle.pagyolint.specs.Texts.{copy_no, copy_count, copy_store, name_no, name_count, name_store};
 
 use limits::LAST_COMMAND;
-use limits::refusal::{Refusal, number};
+use limits::refusal::Refusal;
 use sentences::sentences;
 use session::lent::CountReply;
 use spellings::{names, word_of};
@@ -17,7 +17,7 @@ pub fn copy(text: &[u8], store: &mut [u8]) -> CountReply
 {
     if store.len() < text.len() {
         return CountReply {
-            refusal: number(Refusal::StoreTooShort),
+            refusal: u64::from(Refusal::StoreTooShort),
             count: 0,
         };
     }
@@ -45,7 +45,7 @@ pub fn command_name(c: u64, store: &mut [u8]) -> CountReply
 {
     if (LAST_COMMAND as u64) < c {
         return CountReply {
-            refusal: number(Refusal::BadCommand),
+            refusal: u64::from(Refusal::BadCommand),
             count: 0,
         };
     }

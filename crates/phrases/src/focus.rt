@@ -19,8 +19,7 @@ pub fn focus(record: &[u8], out: &mut [u8], s: Step) -> Step
 {
     let n = number(record, s.from);
     let t = past(s, n);
-    let v = n.value;
-    match v {
+    match n.value {
         0 => said(out, t, b"current"),
         1 => decimal(record, out, t),
         2 => direction(record, out, t),

@@ -1,5 +1,5 @@
 // Parts of a record in words: numbers, names, texts for numbers, a focus. Document 01, section Session, "The record".
-#![tactic(auto)]
+#![tactic(auto, using(texts::specs::BehindLaws::behind_then))]
 
 pub mod focus;
 pub mod number;

@@ -9,17 +9,13 @@ pub struct NumberRead {
     pub good: bool,
 }
 
-fn wide(b: u8) -> u64 {
-    b as u64
-}
-
 // The last group of a number. In the shortest form it is 0 only if it is the only one; the tenth has one bit of the 64.
 fn last_group(value: u64, shift: u64, group: u8, next: usize) -> NumberRead {
     let short = group > 0 || shift == 0;
     let fits = shift < 63 || group < 2;
     NumberRead {
-        value: value,
-        next: next,
+        value,
+        next,
         good: short && fits,
     }
 }
@@ -28,12 +24,12 @@ fn last_group(value: u64, shift: u64, group: u8, next: usize) -> NumberRead {
 fn no_number(next: usize) -> NumberRead {
     NumberRead {
         value: 0,
-        next: next,
+        next,
         good: false,
     }
 }
 
-// The number at a place: groups of seven bits, low group first, 0x80 set on all but the last.
+// The number at a place: groups of seven bits, low group first, 0x80 set on all but the last. The loop goes on by 7, and leaves early.
 fn groups(record: &[u8], from: usize) -> NumberRead {
     let mut value: u64 = 0;
     let mut shift: u64 = 0;
@@ -43,7 +39,7 @@ fn groups(record: &[u8], from: usize) -> NumberRead {
             return no_number(i);
         }
         let b = record[i];
-        value = value | (wide(b % 128) << shift);
+        value = value | (u64::from(b % 128) << shift);
         i += 1;
         if b < 128 {
             return last_group(value, shift, b, i);
@@ -59,7 +55,7 @@ pub fn number(record: &[u8], from: usize) -> NumberRead {
         let b = record[from];
         if b < 128 {
             return NumberRead {
-                value: wide(b),
+                value: u64::from(b),
                 next: from + 1,
                 good: true,
             };

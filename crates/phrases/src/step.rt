@@ -29,11 +29,7 @@ pub fn past(s: Step, n: NumberRead) -> Step
 pub fn bad(s: Step) -> Step
     ensures { result.at ≡ s.at }
 {
-    Step {
-        from: s.from,
-        at: s.at,
-        good: false,
-    }
+    Step { good: false, ..s }
 }
 
 // A text.
@@ -41,9 +37,8 @@ pub fn said(out: &mut [u8], s: Step, text: &[u8]) -> Step
     ensures { Behind out.old out.new s.at result.at }
 {
     Step {
-        from: s.from,
         at: put_text(out, s.at, text),
-        good: s.good,
+        ..s
     }
 }
 
@@ -71,19 +66,15 @@ pub fn decimal_behind(record: &[u8], out: &mut [u8], s: Step, lead: &[u8]) -> St
 fn quoted(record: &[u8], out: &mut [u8], s: Step, count: u64) -> Step
     ensures { Behind out.old out.new s.at result.at }
 {
-    let from = s.from;
-    let n = record.len();
-    if n <= from || count == 0 {
+    let left = record.len().saturating_sub(s.from);
+    if count == 0 || (left as u64) < count {
         return bad(s);
     }
-    if ((n - from) as u64) < count {
-        return bad(s);
-    }
-    let to = from + count as usize;
+    let to = s.from + count as usize;
     Step {
         from: to,
-        at: put_quoted(out, s.at, part(record, from, to)),
-        good: s.good,
+        at: put_quoted(out, s.at, part(record, s.from, to)),
+        ..s
     }
 }
 
@@ -101,8 +92,7 @@ pub fn one_of(record: &[u8], out: &mut [u8], s: Step, zero: &[u8], one: &[u8]) -
 {
     let n = number(record, s.from);
     let t = past(s, n);
-    let v = n.value;
-    match v {
+    match n.value {
         0 => said(out, t, zero),
         1 => said(out, t, one),
         _ => bad(t),
@@ -115,8 +105,7 @@ pub fn count(record: &[u8], out: &mut [u8], s: Step, lead: &[u8]) -> Step
 {
     let n = number(record, s.from);
     let t = past(s, n);
-    let v = n.value;
-    match v {
+    match n.value {
         0 => t,
         1 => decimal_behind(record, out, t, lead),
         _ => bad(t),
@@ -129,8 +118,7 @@ pub fn flags(record: &[u8], out: &mut [u8], s: Step, one: &[u8], two: &[u8]) -> 
 {
     let n = number(record, s.from);
     let t = past(s, n);
-    let v = n.value;
-    match v {
+    match n.value {
         0 => t,
         1 => said(out, t, one),
         2 => said(out, t, two),

@@ -8,7 +8,7 @@ use offset::put_offsets;
 use ranges::range::{MoveDir1D, RangeEnding, RangeEndingType, RangeSearchInit, RangeSpec};
 use reading::alone::RangeReply;
 use scan::part::part;
-use vectors::{put_number, put_refusal, put_two};
+use vectors::answer::Answer;
 
 fn search(d: MoveDir1D) -> u64 {
     match d {
@@ -22,23 +22,22 @@ fn mark(b: u8) -> u64 {
     if b == 0x60 { 0x27 } else { b as u64 }
 }
 
-fn put_atom(out: &mut [u8], n: usize, a: RangeEndingType) -> usize {
+fn put_atom(out: &mut Answer, a: RangeEndingType) {
     match a {
-        RangeEndingType::Unspecified => put_number(out, n, 0),
-        RangeEndingType::Absolute(x) => put_two(out, n, 1, x),
-        RangeEndingType::Current => put_number(out, n, 2),
-        RangeEndingType::All => put_number(out, n, 3),
-        RangeEndingType::Last => put_number(out, n, 4),
-        RangeEndingType::Search(d) => put_number(out, n, search(d)),
-        RangeEndingType::SubPatSearch => put_number(out, n, 7),
-        RangeEndingType::Mark(b) => put_two(out, n, 8, mark(b)),
+        RangeEndingType::Unspecified => out.put_number(0),
+        RangeEndingType::Absolute(x) => out.put_two(1, x),
+        RangeEndingType::Current => out.put_number(2),
+        RangeEndingType::All => out.put_number(3),
+        RangeEndingType::Last => out.put_number(4),
+        RangeEndingType::Search(d) => out.put_number(search(d)),
+        RangeEndingType::SubPatSearch => out.put_number(7),
+        RangeEndingType::Mark(b) => out.put_two(8, mark(b)),
     }
 }
 
-fn put_end(out: &mut [u8], n: usize, text: &[u8], e: RangeEnding) -> usize {
-    let a = e.atom;
-    let m = put_atom(out, n, a);
-    put_offsets(out, m, part(text, e.from, e.to))
+fn put_end(out: &mut Answer, text: &[u8], e: RangeEnding) {
+    put_atom(out, e.atom);
+    put_offsets(out, part(text, e.from, e.to));
 }
 
 fn separator(p: RangeSearchInit) -> u64 {
@@ -48,27 +47,27 @@ fn separator(p: RangeSearchInit) -> u64 {
     }
 }
 
-pub fn put_range(out: &mut [u8], n: usize, text: &[u8], g: RangeSpec) -> usize {
+pub fn put_range(out: &mut Answer, text: &[u8], g: RangeSpec) {
     match g {
         RangeSpec::Single(e) => {
-            let m = put_number(out, n, 0);
-            put_end(out, m, text, e)
+            out.put_number(0);
+            put_end(out, text, e);
         }
         RangeSpec::Double(l, r, p) => {
-            let m = put_number(out, n, 1);
-            let k = put_end(out, m, text, l);
-            let j = put_end(out, k, text, r);
-            put_number(out, j, separator(p))
+            out.put_number(1);
+            put_end(out, text, l);
+            put_end(out, text, r);
+            out.put_number(separator(p));
         }
     }
 }
 
-pub fn answer_range(text: &[u8], out: &mut [u8]) -> usize {
+pub fn answer_range(text: &[u8], out: &mut Answer) {
     match reading::alone::range(text) {
-        RangeReply::Refused(x) => put_refusal(out, x),
+        RangeReply::Refused(x) => out.refuse(x),
         RangeReply::Range(g) => {
-            let n = put_number(out, 0, 0);
-            put_range(out, n, text, g)
+            out.put_number(0);
+            put_range(out, text, g);
         }
     }
 }

@@ -1,12 +1,11 @@
 // Ranges: an end is an optional atom and then offsets; a range is an end, or two ends parted by `,` or `;`.
 // Beside parse_range_modifier, parse_range_number, parse_range_mark, parse_range_atom, parse_range_sep and parse_range of parse.rs.
 ghost use Rattle.std.specs.Prelude.{◌≡◌, cond, ◌||◌, eqb, ◌+◌, ◌^◌, ◌<◌};
-ghost use Rattle.scan.specs.Bytes.{Classes};
 ghost use Rattle.ranges.specs.Offset.{offset_at};
 ghost use Rattle.ranges.specs.Range.{escaped_atom, mark_atom, sign_atom, atom_at, is_sign, offsets_at, with_offsets, ending_at, double as double_of, range_at, whole_of, whole_range};
 
 use super::again::ending_again;
-use scan::classes::{Kind, is_kind};
+use scan::classes::{Class, Mark, Word};
 use scan::decimal::{Decimal, digits, is_digit, many_digits};
 use scan::part::{byte_at, text_again};
 
@@ -179,12 +178,11 @@ fn parse_range_search(i: usize, b: u8) -> AtomRead
 }
 
 // A mark, by the byte after the `'` at `i`.
-fn parse_range_mark(i: usize, b: u8, classes: &[u8; 256]) -> AtomRead
-    requires i_bound { i + 2 < 2 ^ 64 }
-    requires classes { Classes classes.now }
+fn parse_range_mark(i: usize, b: u8) -> AtomRead
+    requires { i + 2 < 2 ^ 64 }
     ensures { result ≡ mark_atom i b }
 {
-    if is_kind(classes, Kind::Mark, b) {
+    if Mark::has(b) {
         AtomRead::Found(RangeEndingType::Mark(b), i + 2)
     } else {
         AtomRead::Absent
@@ -192,9 +190,8 @@ fn parse_range_mark(i: usize, b: u8, classes: &[u8; 256]) -> AtomRead
 }
 
 // An atom that is no number, by its first byte, at `i`, and the next.
-fn parse_range_sign(i: usize, b: u8, d: u8, classes: &[u8; 256]) -> AtomRead
-    requires i_bound { i + 2 < 2 ^ 64 }
-    requires classes { Classes classes.now }
+fn parse_range_sign(i: usize, b: u8, d: u8) -> AtomRead
+    requires { i + 2 < 2 ^ 64 }
     ensures { result ≡ sign_atom i b d }
 {
     match b {
@@ -202,14 +199,13 @@ fn parse_range_sign(i: usize, b: u8, d: u8, classes: &[u8; 256]) -> AtomRead
         0x25 => AtomRead::Found(RangeEndingType::All, i + 1),
         0x24 => AtomRead::Found(RangeEndingType::Last, i + 1),
         0x5C => parse_range_search(i, d),
-        0x27 => parse_range_mark(i, d, classes),
+        0x27 => parse_range_mark(i, d),
         _ => AtomRead::Absent,
     }
 }
 
 // The atom at `at`, if there is one.
-fn parse_range_atom(s: &[u8], at: usize, classes: &[u8; 256]) -> AtomRead
-    requires { Classes classes.now }
+fn parse_range_atom(s: &[u8], at: usize) -> AtomRead
     ensures { result ≡ atom_at s.now at }
 {
     match digits(text_again(s), at) {
@@ -217,7 +213,7 @@ fn parse_range_atom(s: &[u8], at: usize, classes: &[u8; 256]) -> AtomRead
         Decimal::TooLarge => AtomRead::TooLarge,
         Decimal::Absent => {
             if at < s.len() {
-                parse_range_sign(at, s[at], byte_at(s, at + 1), classes)
+                parse_range_sign(at, s[at], byte_at(s, at + 1))
             } else {
                 AtomRead::Absent
             }
@@ -239,11 +235,10 @@ fn with_offsets(a: RangeEndingType, i: usize, o: OffsetsRead) -> EndingRead
 }
 
 // The end of a range at `at`: nothing of the text where there is no atom and no offset.
-fn parse_range_ending(s: &[u8], at: usize, classes: &[u8; 256]) -> EndingRead
-    requires { Classes classes.now }
+fn parse_range_ending(s: &[u8], at: usize) -> EndingRead
     ensures { result ≡ ending_at s.now at }
 {
-    match parse_range_atom(s, at, classes) {
+    match parse_range_atom(s, at) {
         AtomRead::Absent => with_offsets(
             RangeEndingType::Unspecified,
             at,
@@ -284,21 +279,16 @@ fn parse_range_sep(b: u8) -> RangeSearchInit
 }
 
 // The range at `at`, if there is one. The right end is read in one place, whatever the separator.
-pub fn parse_any_range(s: &[u8], at: usize, classes: &[u8; 256]) -> RangeRead
-    requires { Classes classes.now }
+pub fn parse_any_range(s: &[u8], at: usize) -> RangeRead
     ensures { result ≡ range_at s.now at }
 {
-    let EndingRead::Found(l) = parse_range_ending(s, at, classes) else {
+    let EndingRead::Found(l) = parse_range_ending(s, at) else {
         return RangeRead::TooLarge;
     };
     let to = l.to;
     let b = byte_at(s, to);
     if parts(b) {
-        return double(
-            l,
-            parse_range_sep(b),
-            parse_range_ending(s, to + 1, classes),
-        );
+        return double(l, parse_range_sep(b), parse_range_ending(s, to + 1));
     }
     if to == at {
         RangeRead::Absent
@@ -308,14 +298,13 @@ pub fn parse_any_range(s: &[u8], at: usize, classes: &[u8; 256]) -> RangeRead
 }
 
 // The range at `at`. Where a word starts there is none, which is told by its first byte.
-pub fn parse_range(s: &[u8], at: usize, classes: &[u8; 256]) -> RangeRead
-    requires { Classes classes.now }
+pub fn parse_range(s: &[u8], at: usize) -> RangeRead
     ensures { result ≡ range_at s.now at }
 {
-    if is_kind(classes, Kind::Word, byte_at(s, at)) {
+    if Word::has(byte_at(s, at)) {
         return RangeRead::Absent;
     }
-    parse_any_range(s, at, classes)
+    parse_any_range(s, at)
 }
 
 fn whole(n: usize, g: RangeRead) -> WholeRead
@@ -335,9 +324,8 @@ fn whole(n: usize, g: RangeRead) -> WholeRead
 }
 
 // The range that the whole text is.
-pub fn parse_whole_range(s: &[u8], classes: &[u8; 256]) -> WholeRead
-    requires { Classes classes.now }
+pub fn parse_whole_range(s: &[u8]) -> WholeRead
     ensures { result ≡ whole_range s.now }
 {
-    whole(s.len(), parse_any_range(s, 0, classes))
+    whole(s.len(), parse_any_range(s, 0))
 }

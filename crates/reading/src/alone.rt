@@ -1,7 +1,6 @@
 // The argument readings called alone: filenames, strings, options and range of CommandArgument in parse.rs, with their refusals.
 ghost use Rattle.std.specs.Prelude.{◌≡◌, ◌≤◌, length};
 ghost use Rattle.std.proofs.lemmas.List.Edits.{sets};
-ghost use Rattle.scan.specs.Bytes.{Classes};
 ghost use Rattle.store.specs.Splice.{Room};
 ghost use Rattle.lists.specs.Lists.{text_at, items_of, filename_of};
 ghost use Rattle.lists.specs.Listed.{option_bytes};
@@ -15,7 +14,6 @@ use limits::{LINE, SPARE};
 use lists::list::{Item, ListRead, Picked, copy_item, lone, parse_list};
 use lists::option::{OptionType, copy_option};
 use ranges::range::{RangeSpec, WholeRead, parse_whole_range};
-use scan::classes::classes;
 use utf8::utf8::is_utf8;
 
 // A file name: a lone `#`, a lone `%`, or a name of so many bytes.
@@ -100,9 +98,8 @@ pub fn check_line(line: &[u8], size: usize) -> Checked
 }
 
 // The file name that an item is: a name goes to the front of the store.
-fn filename(s: &[u8], x: Item, classes: &[u8; 256], store: &mut [u8]) -> FilenameType
-    requires classes { Classes classes.now }
-    requires room { Room store.old 0 (text_at s.now x.start) }
+fn filename(s: &[u8], x: Item, store: &mut [u8]) -> FilenameType
+    requires { Room store.old 0 (text_at s.now x.start) }
     ensures kind { filename_told result ≡ filename_seen (filename_of s.now x) }
     ensures written { store.new ≡ sets store.old 0 (filename_bytes (filename_of s.now x)) }
 {
@@ -112,7 +109,7 @@ fn filename(s: &[u8], x: Item, classes: &[u8; 256], store: &mut [u8]) -> Filenam
     if lone(s, x, 0x25) {
         return FilenameType::Current;
     }
-    FilenameType::Name(copy_item(s, x.start, classes, store, 0))
+    FilenameType::Name(copy_item(s, x.start, store, 0))
 }
 
 fn filenames_in(text: &[u8], place: usize, store: &mut [u8]) -> FilenamesReply
@@ -120,17 +117,13 @@ fn filenames_in(text: &[u8], place: usize, store: &mut [u8]) -> FilenamesReply
     ensures answer { filenames_told result ≡ told filename_seen (list_answer (filename_of text.now) place (items_of text.now)) }
     ensures written { store.new ≡ at_front (written_by filename_bytes (list_answer (filename_of text.now) place (items_of text.now))) store.old }
 {
-    let classes = classes();
-    match parse_list(text, place, false, &classes) {
+    match parse_list(text, place, false) {
         ListRead::Bad => FilenamesReply::Refused(Refusal::ParseFailed),
         ListRead::List(seen) => {
             let picked = seen.picked;
             match picked {
                 Picked::Ahead(_) => FilenamesReply::Beyond(seen.count),
-                Picked::Item(x) => FilenamesReply::Item(
-                    seen.count,
-                    filename(text, x, &classes, store),
-                ),
+                Picked::Item(x) => FilenamesReply::Item(seen.count, filename(text, x, store)),
             }
         }
     }
@@ -152,8 +145,7 @@ fn strings_in(text: &[u8], place: usize, store: &mut [u8]) -> StringsReply
     ensures answer { strings_told result ≡ told length (list_answer (λ x. text_at text.now x.start) place (items_of text.now)) }
     ensures written { store.new ≡ at_front (written_by (λ t. t) (list_answer (λ x. text_at text.now x.start) place (items_of text.now))) store.old }
 {
-    let classes = classes();
-    match parse_list(text, place, false, &classes) {
+    match parse_list(text, place, false) {
         ListRead::Bad => StringsReply::Refused(Refusal::ParseFailed),
         ListRead::List(seen) => {
             let picked = seen.picked;
@@ -161,7 +153,7 @@ fn strings_in(text: &[u8], place: usize, store: &mut [u8]) -> StringsReply
                 Picked::Ahead(_) => StringsReply::Beyond(seen.count),
                 Picked::Item(x) => StringsReply::Item(
                     seen.count,
-                    copy_item(text, x.start, &classes, store, 0),
+                    copy_item(text, x.start, store, 0),
                 ),
             }
         }
@@ -184,8 +176,7 @@ fn options_in(text: &[u8], place: usize, store: &mut [u8]) -> OptionsReply
     ensures answer { options_told result ≡ told option_counts (options_answer text.now place (items_of text.now)) }
     ensures written { store.new ≡ at_front (written_by option_bytes (options_answer text.now place (items_of text.now))) store.old }
 {
-    let classes = classes();
-    match parse_list(text, place, true, &classes) {
+    match parse_list(text, place, true) {
         ListRead::Bad => OptionsReply::Refused(Refusal::ParseFailed),
         ListRead::List(seen) => {
             if seen.keyless {
@@ -196,7 +187,7 @@ fn options_in(text: &[u8], place: usize, store: &mut [u8]) -> OptionsReply
                 Picked::Ahead(_) => OptionsReply::Beyond(seen.count),
                 Picked::Item(x) => OptionsReply::Item(
                     seen.count,
-                    copy_option(text, x.start, &classes, store),
+                    copy_option(text, x.start, store),
                 ),
             }
         }
@@ -229,10 +220,7 @@ pub fn range(text: &[u8]) -> RangeReply
     ensures { range_told result ≡ range_alone text.now }
 {
     match check_for(text, 0, 0) {
-        Checked::Good => {
-            let classes = classes();
-            range_reply(parse_whole_range(text, &classes))
-        }
+        Checked::Good => { range_reply(parse_whole_range(text)) }
         Checked::Bad(x) => RangeReply::Refused(x),
     }
 }

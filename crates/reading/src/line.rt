@@ -1,7 +1,7 @@
 // One reading of a text: range, word, bang and where the argument stands.
 // Beside parse_cmd_name, parse_cmd_argument, parse_cmd_descr and parse of parse.rs.
 ghost use Rattle.std.specs.Prelude.{◌≡◌, ◌<◌};
-ghost use Rattle.scan.specs.Bytes.{Classes, is_text};
+ghost use Rattle.scan.specs.Bytes.{is_text};
 ghost use Rattle.scan.specs.Scan.{run_at, part_of};
 ghost use Rattle.reading.specs.Line.{skip_byte, word_at, rest_at, after_word, start_of, reading_of};
 ghost use Rattle.reading.specs.WordPlaces.{word_place};
@@ -10,7 +10,7 @@ use blocks::run::{skip_spaces, word_end};
 use blocks::text::text_stop;
 use ranges::again::range_again;
 use ranges::range::{RangeRead, parse_range};
-use scan::classes::{Kind, classes, is_kind};
+use scan::classes::{Class, Colon, Text, Word};
 use scan::part::{byte_at, part};
 use scan::run::run_end;
 
@@ -57,15 +57,14 @@ pub fn skip_byte(s: &[u8], i: usize, b: u8) -> usize
 }
 
 // The word at `at`: `!` alone, or a run of word characters, or empty.
-pub fn parse_cmd_name(s: &[u8], at: usize, classes: &[u8; 256]) -> WordRead
-    requires { Classes classes.now }
+pub fn parse_cmd_name(s: &[u8], at: usize) -> WordRead
     ensures { result ≡ word_at s.now at }
 {
     let b = byte_at(s, at);
     if b == 0x21 {
         return WordRead::Word(at + 1, at + 1);
     }
-    let e = word_end(s, at, classes);
+    let e = word_end(s, at);
     if e == at {
         if s.len() <= at {
             return WordRead::Word(at, at);
@@ -94,15 +93,14 @@ pub fn description_again(d: CommandDescription) -> CommandDescription
 }
 
 // Where the text of an argument at `a` ends, where the first 0x0A of the whole text is known.
-fn text_from(s: &[u8], a: usize, stop: usize, classes: &[u8; 256]) -> usize
-    requires stop_value { stop ≡ run_at is_text s.now 0 }
-    requires classes { Classes classes.now }
+fn text_from(s: &[u8], a: usize, stop: usize) -> usize
+    requires { stop ≡ run_at is_text s.now 0 }
     ensures { result ≡ run_at is_text s.now a }
 {
     if a <= stop {
         return stop;
     }
-    run_end(s, a, classes, Kind::Text)
+    run_end::<Text>(s, a)
 }
 
 // The bang and the argument after a word, and the end of the text.
@@ -113,15 +111,13 @@ fn parse_cmd_argument(
     end: usize,
     next: usize,
     stop: usize,
-    classes: &[u8; 256],
 ) -> CommandRead
-    requires stop_value { stop ≡ run_at is_text s.now 0 }
-    requires classes { Classes classes.now }
+    requires { stop ≡ run_at is_text s.now 0 }
     ensures { result ≡ rest_at s.now range word end next (skip_byte s.now next 0x21) }
 {
     let b = skip_byte(s, next, 0x21);
-    let a = skip_spaces(s, b, classes);
-    let e = text_from(s, a, stop, classes);
+    let a = skip_spaces(s, b);
+    let e = text_from(s, a, stop);
     if skip_byte(s, e, 0x0A) == s.len() {
         return CommandRead::Command(CommandDescription {
             range: range_again(range),
@@ -136,33 +132,25 @@ fn parse_cmd_argument(
 }
 
 // The word and what follows it.
-fn parse_cmd_after_range(
-    s: &[u8],
-    range: RangeRead,
-    at: usize,
-    stop: usize,
-    classes: &[u8; 256],
-) -> CommandRead
-    requires stop_value { stop ≡ run_at is_text s.now 0 }
-    requires classes { Classes classes.now }
+fn parse_cmd_after_range(s: &[u8], range: RangeRead, at: usize, stop: usize) -> CommandRead
+    requires { stop ≡ run_at is_text s.now 0 }
     ensures { result ≡ after_word s.now range at (word_at s.now at) }
 {
-    match parse_cmd_name(s, at, classes) {
-        WordRead::Word(end, next) => parse_cmd_argument(s, range, at, end, next, stop, classes),
+    match parse_cmd_name(s, at) {
+        WordRead::Word(end, next) => parse_cmd_argument(s, range, at, end, next, stop),
         WordRead::Bad => CommandRead::Failed,
     }
 }
 
 // Past the spaces, the colons and the spaces that a text may start with. A word's first byte tells that there are none.
-fn line_start(s: &[u8], classes: &[u8; 256]) -> usize
-    requires { Classes classes.now }
+fn line_start(s: &[u8]) -> usize
     ensures { result ≡ start_of s.now }
 {
-    if is_kind(classes, Kind::Word, byte_at(s, 0)) {
+    if Word::has(byte_at(s, 0)) {
         return 0;
     }
-    let i = run_end(s, skip_spaces(s, 0, classes), classes, Kind::Colon);
-    skip_spaces(s, i, classes)
+    let i = run_end::<Colon>(s, skip_spaces(s, 0));
+    skip_spaces(s, i)
 }
 
 // Where the word stands behind a range that was looked for at `i`.
@@ -177,15 +165,14 @@ fn word_place(i: usize, g: RangeRead) -> WordPlace
 }
 
 // The reading of a text whose first 0x0A, or its end, is at `stop`: found once for a line, whatever its number of readings.
-pub fn parse_cmd_descr(s: &[u8], stop: usize, classes: &[u8; 256]) -> CommandRead
-    requires stop_value { stop ≡ run_at is_text s.now 0 }
-    requires classes { Classes classes.now }
+pub fn parse_cmd_descr(s: &[u8], stop: usize) -> CommandRead
+    requires { stop ≡ run_at is_text s.now 0 }
     ensures { result ≡ reading_of s.now }
 {
-    let i = line_start(s, classes);
-    let range = parse_range(s, i, classes);
+    let i = line_start(s);
+    let range = parse_range(s, i);
     match word_place(i, range) {
-        WordPlace::At(j) => parse_cmd_after_range(s, range, j, stop, classes),
+        WordPlace::At(j) => parse_cmd_after_range(s, range, j, stop),
         WordPlace::TooLarge => CommandRead::TooLarge,
     }
 }
@@ -194,9 +181,8 @@ pub fn parse_cmd_descr(s: &[u8], stop: usize, classes: &[u8; 256]) -> CommandRea
 pub fn parse(s: &[u8]) -> CommandRead
     ensures { result ≡ reading_of s.now }
 {
-    let classes = classes();
-    let stop = text_stop(s, &classes);
-    parse_cmd_descr(s, stop, &classes)
+    let stop = text_stop(s);
+    parse_cmd_descr(s, stop)
 }
 
 // The argument of a reading: the part of the text from the argument's first byte on, lent.

@@ -3,7 +3,7 @@
 
 ghost use Rattle.texts.specs.Behind.{Behind};
 
-use limits::refusal::{Numbered, Refusal, number, refusal_of};
+use limits::refusal::{NoRefusal, Refusal};
 use limits::{ALIASES, LAST_COMMAND, LINE, MOST, WORD};
 use phrases::number::name_of;
 use texts::put::{put_decimal, put_quoted, put_text};
@@ -108,10 +108,10 @@ fn put_words(out: &mut [u8], at: usize, x: Refusal) -> usize
 pub fn put_refusal(out: &mut [u8], at: usize, n: u64) -> usize
     ensures { Behind out.old out.new at result }
 {
-    match refusal_of(n) {
-        Numbered::Refused(x) => put_words(out, at, x),
-        Numbered::Accepted => put_text(out, at, b"not refused"),
-        Numbered::Unused => put_limit(out, at, b"no refusal has the number ", n, b""),
+    match Refusal::try_from(n) {
+        Ok(x) => put_words(out, at, x),
+        Err(NoRefusal { number: 0 }) => put_text(out, at, b"not refused"),
+        Err(NoRefusal { number }) => put_limit(out, at, b"no refusal has the number ", number, b""),
     }
 }
 
@@ -129,7 +129,7 @@ pub fn put_refused_word(out: &mut [u8], at: usize, n: u64, word: &[u8]) -> usize
 pub fn put_refused(out: &mut [u8], at: usize, n: u64, readings: u64, written: &[u8]) -> usize
     ensures { Behind out.old out.new at result }
 {
-    if n == number(Refusal::UnknownWord) {
+    if n == u64::from(Refusal::UnknownWord) {
         return put_refused_word(out, at, n, name_of(written));
     }
     let i = put_refusal(out, at, n);

@@ -3,77 +3,51 @@
 
 mod lines;
 
+use answers::answer_reading;
 use layout::places::SESSION;
-use lines::Answered;
-use scan::part::part;
+use lines::{answer_alias, answer_damaged, answer_line, answer_sized, fresh};
+use list_answers::answer_list;
+use range_answers::answer_range;
 use std::io;
-use std::io::Read;
-use vectors::{Frame, Tally};
+use vectors::answer::{ANSWER, Answer};
+use vectors::op::Op;
+use vectors::{Tally, Unread, next_vector};
 
-// How far the run is, and the bytes of the session that goes on from vector to vector.
-#[derive(Clone, Copy)]
-struct Replay {
-    tally: Tally,
-    session: [u8; SESSION],
-}
+// How long a vector's text can be.
+const TEXT: usize = 1028;
 
-fn answer(session: [u8; SESSION], op: u8, text: &[u8], out: &mut [u8]) -> Answered {
-    if op < 3 || 7 < op {
-        return lines::answer(session, op, text, out);
+// What is answered to a vector's text, by the session that goes on from vector to vector or by a reading of the text alone.
+fn answer(session: &mut [u8; SESSION], op: Op, text: &[u8], out: &mut Answer) {
+    match op {
+        Op::Fresh => *session = fresh(),
+        Op::Alias => answer_alias(session, text, out),
+        Op::Line => answer_line(session, text, out),
+        Op::Range => answer_range(text, out),
+        Op::Items(list) => answer_list(list, text, out),
+        Op::Reading => answer_reading(text, out),
+        Op::Sized => answer_sized(session, text, out),
+        Op::Damaged => answer_damaged(session, text, out),
     }
-    Answered {
-        session: session,
-        end: answers::answer(op, text, out),
-    }
-}
-
-fn replayed(rt: &impl Print, t: Replay, op: u8, text: &[u8], want: &[u8]) -> io::Result<Replay> {
-    let mut out = [0u8; 4096];
-    let tally = t.tally;
-    let session = t.session;
-    let answered = answer(session, op, text, &mut out);
-    let next = answered.session;
-    Ok(Replay {
-        tally: vectors::counted(rt, tally, part(&out, 0, answered.end) == want)?,
-        session: next,
-    })
-}
-
-fn turn<I: Read>(rt: &impl Print, input: &mut I, t: Replay) -> io::Result<Replay> {
-    let mut text = [0u8; 1028];
-    let mut want = [0u8; 4096];
-    let tally = t.tally;
-    let session = t.session;
-    match vectors::next_vector(input, &mut text, &mut want)? {
-        Frame::End => Ok(Replay {
-            tally: vectors::finished(rt, tally)?,
-            session: session,
-        }),
-        Frame::Broken => Ok(Replay {
-            tally: vectors::broken(rt, tally)?,
-            session: session,
-        }),
-        Frame::Vector(op, n, m) => replayed(rt, t, op, part(&text, 0, n), part(&want, 0, m)),
-    }
-}
-
-fn more(t: Replay) -> bool {
-    let tally = t.tally;
-    tally.more
 }
 
 // A proved loop has to end, so it counts its turns up to a number that no run reaches.
 fn main(rt: HostRuntime) -> io::Result<()> {
     let mut input = rt.reader();
-    let mut t = Replay {
-        tally: vectors::start(),
-        session: lines::fresh(),
-    };
+    let mut tally = Tally::default();
+    let mut session = fresh();
     for _ in 0..u64::MAX {
-        if !more(t) {
-            break;
+        let mut text = [0u8; TEXT];
+        let mut want = [0u8; ANSWER];
+        match next_vector(&mut input, &mut text, &mut want) {
+            Ok(Some(v)) => {
+                let mut out = Answer::new();
+                answer(&mut session, v.op, v.text, &mut out);
+                tally.count(&rt, out.written() == v.answer)?;
+            }
+            Ok(None) => return tally.finished(&rt),
+            Err(Unread::Broken) => return tally.broken(&rt),
+            Err(Unread::System(e)) => return Err(e),
         }
-        t = turn(&rt, &mut input, t)?;
     }
     Ok(())
 }

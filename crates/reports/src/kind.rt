@@ -1,13 +1,12 @@
 // What a line of a report is, by the bytes that it starts with.
 ghost use Rattle.std.specs.Prelude.{◌≡◌};
-ghost use Rattle.reports.specs.Kind.{of_alias, numbered_by, of_number, of_row, of_file, of_program, kind_of};
+ghost use Rattle.reports.specs.Kind.{of_alias, numbered_by, of_number, kind_of};
 
-use super::text::{equal, starts};
 use scan::decimal::{Decimal, digits, is_digit};
 use scan::part::{byte_at, part};
 
 // The kinds of lines. A numbered line is of the sheet, or of a checklist's orders.
-#[derive(Clone, Copy)]
+#[derive(Clone, Copy, PartialEq, Eq)]
 pub enum Kind {
     Exsheet,
     Checklist,
@@ -27,8 +26,7 @@ fn of_alias(d: Decimal) -> Kind
 {
     match d {
         Decimal::Value(n, _) => Kind::Alias(n),
-        Decimal::Absent => Kind::Other,
-        Decimal::TooLarge => Kind::Other,
+        _ => Kind::Other,
     }
 }
 
@@ -36,13 +34,11 @@ fn of_alias(d: Decimal) -> Kind
 fn numbered(n: u64, rest: &[u8]) -> Kind
     ensures { result ≡ numbered_by n rest.now }
 {
-    if !starts(rest, b" ") {
-        return Kind::Other;
+    if rest.starts_with(b" ") && is_digit(byte_at(rest, 1)) {
+        Kind::Numbered(n)
+    } else {
+        Kind::Other
     }
-    if is_digit(byte_at(rest, 1)) {
-        return Kind::Numbered(n);
-    }
-    Kind::Other
 }
 
 // A line that starts with no word, by the number that it starts with.
@@ -51,59 +47,38 @@ fn of_number(line: &[u8], d: Decimal) -> Kind
 {
     match d {
         Decimal::Value(n, e) => numbered(n, part(line, e, line.len())),
-        Decimal::Absent => Kind::Other,
-        Decimal::TooLarge => Kind::Other,
+        _ => Kind::Other,
     }
-}
-
-// A line about the reference sheet, or no word's.
-fn of_row(line: &[u8]) -> Kind
-    ensures { result ≡ of_row line.now }
-{
-    if starts(line, b"reference sheet, ") {
-        return Kind::Reference;
-    }
-    if equal(line, b"reference sheet") {
-        return Kind::Heading;
-    }
-    of_number(line, digits(line, 0))
-}
-
-// A line about the sheet or the aliases, or another one.
-fn of_file(line: &[u8]) -> Kind
-    ensures { result ≡ of_file line.now }
-{
-    if starts(line, b"sheet ") {
-        return Kind::Sheet;
-    }
-    if starts(line, b"aliases ") {
-        return Kind::Aliases;
-    }
-    of_row(line)
-}
-
-// A line about the program, or another one.
-fn of_program(line: &[u8]) -> Kind
-    ensures { result ≡ of_program line.now }
-{
-    if starts(line, b"exsheet ") {
-        return Kind::Exsheet;
-    }
-    if starts(line, b"checklist ") {
-        return Kind::Checklist;
-    }
-    of_file(line)
 }
 
 // The kind of a line.
+#[tactic(auto, unfolding(crate::specs::Kind::kind_of))]
 pub fn kind_of(line: &[u8]) -> Kind
     ensures { result ≡ kind_of line.now }
 {
-    if starts(line, b"    ") {
+    if line.starts_with(b"    ") {
         return Kind::Text;
     }
-    if starts(line, b"alias ") {
+    if line.starts_with(b"alias ") {
         return of_alias(digits(line, 6));
     }
-    of_program(line)
+    if line.starts_with(b"exsheet ") {
+        return Kind::Exsheet;
+    }
+    if line.starts_with(b"checklist ") {
+        return Kind::Checklist;
+    }
+    if line.starts_with(b"sheet ") {
+        return Kind::Sheet;
+    }
+    if line.starts_with(b"aliases ") {
+        return Kind::Aliases;
+    }
+    if line.starts_with(b"reference sheet, ") {
+        return Kind::Reference;
+    }
+    if line == b"reference sheet".as_slice() {
+        return Kind::Heading;
+    }
+    of_number(line, digits(line, 0))
 }

@@ -1,71 +1,55 @@
 // Lines that differ in the name of a file alone: what stands behind the name, how many bytes it has and their number, is the same.
-use super::text::{equal, line_end, starts};
-use scan::part::part;
 
-// Whether two lines differ in a name alone, and where each of them ends.
+// Which names differ: the sheet's, the alias file's, or both.
+#[derive(Clone, Copy, PartialEq, Eq)]
+pub enum Names {
+    Sheet,
+    Aliases,
+    Both,
+}
+
+// Two lines that differ in a name alone: in which, and where each of them ends.
 #[derive(Clone, Copy)]
-pub enum Named {
-    Name(usize, usize),
-    More,
+pub struct Named {
+    pub names: Names,
+    pub a: usize,
+    pub b: usize,
 }
 
-// Where the last two commas of a line stand; its end for one that it does not have.
-#[derive(Clone, Copy)]
-struct Commas {
-    first: usize,
-    second: usize,
-}
-
-// The last two commas of a line.
-fn last_commas(line: &[u8]) -> Commas {
-    let mut first = line.len();
-    let mut second = line.len();
-    let mut i: usize = 0;
-    while i < line.len() {
-        if line[i] == 0x2C {
-            first = second;
-            second = i;
-        }
-        i += 1;
-    }
-    Commas {
-        first: first,
-        second: second,
-    }
-}
-
-// What stands behind the name: the last two parts of a line.
-fn behind_name(line: &[u8]) -> &[u8] {
-    let c = last_commas(line);
-    part(line, c.first, line.len())
+// What stands behind the name: the last two parts of a line, from the comma before them on.
+fn behind_name(line: &[u8]) -> Option<&[u8]> {
+    let second = line.iter().rposition(|b| *b == b',')?;
+    let first = line[..second].iter().rposition(|b| *b == b',')?;
+    Some(&line[first..])
 }
 
 // Whether two lines have the same behind their names, and something.
 fn same_behind(a: &[u8], b: &[u8]) -> bool {
-    let s = behind_name(a);
-    s.len() > 0 && equal(s, behind_name(b))
+    match (behind_name(a), behind_name(b)) {
+        (Some(x), Some(y)) => x == y,
+        _ => false,
+    }
 }
 
-// The lines that two texts start with, if both start with a word and end in the texts.
-fn named_by(a: &[u8], b: &[u8], word: &[u8]) -> Named {
-    let i = line_end(a, 0);
-    let j = line_end(b, 0);
-    if !starts(a, word) || !starts(b, word) || a.len() <= i || b.len() <= j {
-        return Named::More;
+// The lines that two texts start with, if both start with a word, end in the texts and differ in a name alone.
+fn named_by(a: &[u8], b: &[u8], word: &[u8], names: Names) -> Option<Named> {
+    if !a.starts_with(word) || !b.starts_with(word) {
+        return None;
     }
-    if same_behind(part(a, 0, i), part(b, 0, j)) {
-        return Named::Name(i, j);
+    let i = a.iter().position(|c| *c == b'\n')?;
+    let j = b.iter().position(|c| *c == b'\n')?;
+    if same_behind(&a[..i], &b[..j]) {
+        Some(Named { names, a: i, b: j })
+    } else {
+        None
     }
-    Named::More
 }
 
-// Whether the lines with this number that two texts start with differ in a name alone: the second names the sheet, the third the aliases.
-pub fn named_at(line: u64, a: &[u8], b: &[u8]) -> Named {
-    if line == 2 {
-        return named_by(a, b, b"sheet ");
+// The lines with this number that two texts start with, if they differ in a name alone: the second names the sheet, the third the aliases.
+pub fn named_at(line: u64, a: &[u8], b: &[u8]) -> Option<Named> {
+    match line {
+        2 => named_by(a, b, b"sheet ", Names::Sheet),
+        3 => named_by(a, b, b"aliases ", Names::Aliases),
+        _ => None,
     }
-    if line == 3 {
-        return named_by(a, b, b"aliases ");
-    }
-    Named::More
 }

@@ -1,6 +1,5 @@
 // The handler that resizes a window: `:resize`.
 ghost use Rattle.std.specs.Prelude.{◌≡◌};
-ghost use Rattle.scan.specs.Bytes.{Classes};
 ghost use Rattle.resize.specs.Resize.{exact_by, step_by, stepped as stepped_of, end_change, range_change, change_by, change_of, resize_at, resize_by, resize_of};
 
 use actions::action::{Action, Axis, SizeChange, WindowAction};
@@ -86,14 +85,13 @@ fn change_by(a: &[u8], w: WholeRead) -> Resized
 }
 
 // The change that the argument `a` asks for.
-fn size_change(a: &[u8], classes: &[u8; 256]) -> Resized
-    requires { Classes classes.now }
+fn size_change(a: &[u8]) -> Resized
     ensures { result ≡ change_of a.now }
 {
     if a.len() == 0 {
         return Resized::Refused(Refusal::InvalidArgument);
     }
-    change_by(a, parse_whole_range(a, classes))
+    change_by(a, parse_whole_range(a))
 }
 
 fn resize_at(axis: Axis, c: SizeChange, f: Focused) -> Done
@@ -115,19 +113,13 @@ fn resize_by(axis: Axis, c: Resized, f: Focused) -> Done
 }
 
 // The `:resize` command. Alias: `res`. Changes the size of a window along the axis of the context.
-pub fn vim_cmd_resize(
-    s: &[u8],
-    d: CommandDescription,
-    x: CommandContext,
-    classes: &[u8; 256],
-) -> Done
-    requires { Classes classes.now }
+pub fn vim_cmd_resize(s: &[u8], d: CommandDescription, x: CommandContext) -> Done
     ensures { result ≡ resize_of s.now d x }
 {
     let g = d.range;
     resize_by(
         x.axis(),
-        size_change(argument(s, d), classes),
+        size_change(argument(s, d)),
         window_range_target(s, g),
     )
 }

@@ -2,7 +2,6 @@
 ghost use Rattle.std.specs.Prelude.{◌≡◌, ◌+◌, ◌≤◌, length};
 ghost use Rattle.limits.specs.Limits.{spare};
 ghost use Rattle.limits.specs.Refusals.{refusal_no};
-ghost use Rattle.scan.specs.Bytes.{Classes};
 ghost use Rattle.scan.specs.Scan.{part_of};
 ghost use Rattle.commands.specs.Run.{Out};
 ghost use Rattle.commands.specs.Line.{store_after};
@@ -10,7 +9,7 @@ ghost use Rattle.run.specs.Reply.{reply, after, done_at};
 
 use actions::record::{put_action, put_nothing};
 use handlers::done::Done;
-use limits::refusal::{Refusal, number};
+use limits::refusal::Refusal;
 use scan::part::part;
 use store::put_name;
 
@@ -43,7 +42,7 @@ pub fn end_refused(e: Refusal, readings: u64) -> LineReply
     ensures { result ≡ reply (after readings (Out.refused (refusal_no e))) }
 {
     LineReply {
-        refusal: number(e),
+        refusal: u64::from(e),
         readings: readings,
         count: 0,
     }
@@ -58,7 +57,7 @@ pub fn end_unknown(line: &[u8], a: usize, e: usize, readings: u64, store: &mut [
 {
     let count = put_name(store, 0, part(line, a, e));
     LineReply {
-        refusal: number(Refusal::UnknownWord),
+        refusal: u64::from(Refusal::UnknownWord),
         readings: readings,
         count: count as u64,
     }
@@ -72,17 +71,15 @@ pub fn end_done(
     e: usize,
     readings: u64,
     store: &mut [u8],
-    classes: &[u8; 256],
 ) -> LineReply
-    requires classes { Classes classes.now }
-    requires spare_in_bounds { length line.now + spare ≤ length store.old }
+    requires { length line.now + spare ≤ length store.old }
     ensures answer { result ≡ reply (after readings (done_at line.now x a e)) }
     ensures store { store.new ≡ store_after (done_at line.now x a e) store.old }
     ensures size { length store.new ≡ length store.old }
 {
     match x {
         Done::Act(y) => {
-            let count = put_action(store, 0, part(line, a, e), y, classes);
+            let count = put_action(store, 0, part(line, a, e), y);
             LineReply {
                 refusal: 0,
                 readings: readings,

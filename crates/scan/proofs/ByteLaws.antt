@@ -8,8 +8,7 @@ use native.Mathlib.Omega.{arith}
 use native.Mathlib.Decide.{dec_lt}
 use lib.Dec.{T, eqb, eqb→eq}
 use lib.ListN.{length, get_or}
-use Rattle.scan.specs.Bytes.{class_of, Classes, is_kind, is_space, is_colon, is_digit, is_word, is_mark, is_text, is_plain, is_quoted}
-use Rattle.scan.specs.declared.classes.Kind.{Kind}
+use Rattle.scan.specs.Bytes.{class_of, Classes, is_space, is_colon, is_digit, is_word, is_mark, is_text, is_plain, is_quoted}
 use Rattle.scan.proofs.Table.{both, both_left, both_right, every, at}
 
 -- the test passes at each number below n
@@ -35,28 +34,38 @@ same false false t = refl
 bytes_agree : (f g : ℕ → Bool) → T (below 256 (λ b. beq (f b) (g b))) → (b : ℕ) → b < 256 → f b ≡ g b
 bytes_agree f g t b h = same (f b) (g b) (at_below 256 (λ b. beq (f b) (g b)) t b h)
 
--- the weight of a kind in a class
-abbrev pub weight : Kind → ℕ
-weight Kind.Space = 1
-weight Kind.Colon = 2
-weight Kind.Digit = 4
-weight Kind.Word = 8
-weight Kind.Mark = 16
-weight Kind.Text = 32
-weight Kind.Plain = 64
-weight Kind.Quoted = 128
+-- a weight stands in the class of a byte just where the byte passes the rule
+pub space_weight : (b : ℕ) → b < 256 → eqb (class_of b / 1 % 2) 1 ≡ is_space b
+unfolding class_of is_space is_colon is_digit is_word is_mark is_text is_plain is_quoted
+space_weight b h = bytes_agree (λ b. eqb (class_of b / 1 % 2) 1) is_space tt b h
 
--- the weight stands in the class of a byte just where the byte is of the kind
-pub class_kind : (k : Kind) (b : ℕ) → b < 256 → eqb (class_of b / weight k % 2) 1 ≡ is_kind k b
-unfolding class_of is_kind is_space is_colon is_digit is_word is_mark is_text is_plain is_quoted
-class_kind Kind.Space b h = bytes_agree (λ b. eqb (class_of b / 1 % 2) 1) (is_kind Kind.Space) tt b h
-class_kind Kind.Colon b h = bytes_agree (λ b. eqb (class_of b / 2 % 2) 1) (is_kind Kind.Colon) tt b h
-class_kind Kind.Digit b h = bytes_agree (λ b. eqb (class_of b / 4 % 2) 1) (is_kind Kind.Digit) tt b h
-class_kind Kind.Word b h = bytes_agree (λ b. eqb (class_of b / 8 % 2) 1) (is_kind Kind.Word) tt b h
-class_kind Kind.Mark b h = bytes_agree (λ b. eqb (class_of b / 16 % 2) 1) (is_kind Kind.Mark) tt b h
-class_kind Kind.Text b h = bytes_agree (λ b. eqb (class_of b / 32 % 2) 1) (is_kind Kind.Text) tt b h
-class_kind Kind.Plain b h = bytes_agree (λ b. eqb (class_of b / 64 % 2) 1) (is_kind Kind.Plain) tt b h
-class_kind Kind.Quoted b h = bytes_agree (λ b. eqb (class_of b / 128 % 2) 1) (is_kind Kind.Quoted) tt b h
+pub colon_weight : (b : ℕ) → b < 256 → eqb (class_of b / 2 % 2) 1 ≡ is_colon b
+unfolding class_of is_space is_colon is_digit is_word is_mark is_text is_plain is_quoted
+colon_weight b h = bytes_agree (λ b. eqb (class_of b / 2 % 2) 1) is_colon tt b h
+
+pub digit_weight : (b : ℕ) → b < 256 → eqb (class_of b / 4 % 2) 1 ≡ is_digit b
+unfolding class_of is_space is_colon is_digit is_word is_mark is_text is_plain is_quoted
+digit_weight b h = bytes_agree (λ b. eqb (class_of b / 4 % 2) 1) is_digit tt b h
+
+pub word_weight : (b : ℕ) → b < 256 → eqb (class_of b / 8 % 2) 1 ≡ is_word b
+unfolding class_of is_space is_colon is_digit is_word is_mark is_text is_plain is_quoted
+word_weight b h = bytes_agree (λ b. eqb (class_of b / 8 % 2) 1) is_word tt b h
+
+pub mark_weight : (b : ℕ) → b < 256 → eqb (class_of b / 16 % 2) 1 ≡ is_mark b
+unfolding class_of is_space is_colon is_digit is_word is_mark is_text is_plain is_quoted
+mark_weight b h = bytes_agree (λ b. eqb (class_of b / 16 % 2) 1) is_mark tt b h
+
+pub text_weight : (b : ℕ) → b < 256 → eqb (class_of b / 32 % 2) 1 ≡ is_text b
+unfolding class_of is_space is_colon is_digit is_word is_mark is_text is_plain is_quoted
+text_weight b h = bytes_agree (λ b. eqb (class_of b / 32 % 2) 1) is_text tt b h
+
+pub plain_weight : (b : ℕ) → b < 256 → eqb (class_of b / 64 % 2) 1 ≡ is_plain b
+unfolding class_of is_space is_colon is_digit is_word is_mark is_text is_plain is_quoted
+plain_weight b h = bytes_agree (λ b. eqb (class_of b / 64 % 2) 1) is_plain tt b h
+
+pub quoted_weight : (b : ℕ) → b < 256 → eqb (class_of b / 128 % 2) 1 ≡ is_quoted b
+unfolding class_of is_space is_colon is_digit is_word is_mark is_text is_plain is_quoted
+quoted_weight b h = bytes_agree (λ b. eqb (class_of b / 128 % 2) 1) is_quoted tt b h
 
 -- an entry is the class of the byte that it stands at
 abbrev pub right : ℕ → ℕ → Bool

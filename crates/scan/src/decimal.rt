@@ -1,10 +1,12 @@
 // Decimal digits.
 ghost use Rattle.std.specs.Prelude.{◌≡◌, true, false, cond, ◌+◌, ◌*◌, ◌^◌, ◌<◌, ◌≤◌, eqb, length};
-ghost use Rattle.scan.specs.Bytes.{is_digit};
+ghost use Rattle.scan.specs.Bytes.{is_digit, is_zero};
 ghost use Rattle.scan.specs.Scan.{digits_at};
 ghost use Rattle.scan.specs.DigitsLaws.{Zeros};
 
+use super::block::blocks_end;
 use super::byte::within;
+use super::classes::Class;
 use super::part::byte_at;
 use limits::MOST;
 
@@ -18,9 +20,6 @@ pub enum Decimal {
 
 // A number up to this stays below 2^64 with any digit behind it.
 const SMALL: u64 = MOST / 10 - 1;
-
-// How many zeros are tested at once.
-const BLOCK: usize = 32;
 
 fn number(at: usize, i: usize, n: u64) -> Decimal
     ensures { result ≡ cond (eqb i at) Decimal.Absent (Decimal.Value n i) }
@@ -49,24 +48,15 @@ fn too_large(n: u64, d: u64) -> bool
     (MOST - d) / 10 < n
 }
 
-fn still_zero(m: bool, b: u8) -> bool
-    ensures { result ≡ true → (m ≡ true) × (b ≡ 0x30) }
-{
-    if m { b == 0x30 } else { false }
-}
+// The digit 0 alone.
+struct Zero;
 
-// True only where the block at `at` is of zeros.
-fn all_zero(s: &[u8], at: usize) -> bool
-    requires { at + 32 ≤ length s.now }
-    ensures { result ≡ true → Zeros s.now at (at + 32) }
-{
-    let mut m = true;
-    let mut i: usize = 0;
-    while i < BLOCK {
-        m = still_zero(m, s[at + i]);
-        i += 1;
+impl Class for Zero {
+    ghost rule = { is_zero };
+
+    fn has(b: u8) -> bool {
+        b == 0x30
     }
-    m
 }
 
 // Past the blocks of zeros from `at` on.
@@ -76,14 +66,7 @@ fn past_zeros(s: &[u8], at: usize) -> usize
     if byte_at(s, at) != 0x30 {
         return at;
     }
-    let mut i = at;
-    while i < s.len() && BLOCK <= s.len() - i {
-        if !all_zero(s, i) {
-            return i;
-        }
-        i += BLOCK;
-    }
-    i
+    blocks_end::<Zero>(s, at)
 }
 
 // The digits at `at`, however many: zeros in front of them by blocks.

@@ -1,7 +1,6 @@
 // The token at a place of a line: what kind of text stands there, and where it ends.
 // The lead of a line is read by the readers of a reading, the argument by those of a list.
 ghost use Rattle.std.specs.Prelude.{◌≡◌, ◌<◌, length};
-ghost use Rattle.scan.specs.Bytes.{Classes};
 ghost use Rattle.lists.specs.Lists.{item_at};
 ghost use Rattle.reading.specs.Line.{word_at};
 ghost use Rattle.scanner.specs.Tokens.{lead_left, lead_word, lead_of, pieces, up_to, piece_at, parted as parted_at, newline_token, item_token, argument_token, end_token, token_in, position_at, step_at, covering};
@@ -11,7 +10,7 @@ use lists::list::item_of;
 use lists::text::{TextEnd, text_end};
 use ranges::range::{RangeRead, parse_any_range};
 use reading::line::{WordRead, parse_cmd_name, skip_byte};
-use scan::classes::{Kind, classes, is_kind};
+use scan::classes::{Class, Colon, Space, Text};
 use scan::part::byte_at;
 use scan::run::run_end;
 
@@ -88,15 +87,14 @@ fn lead_left(s: &[u8], a: usize, b: usize, c: usize, d: usize) -> Lead
 }
 
 // The lead of a line whose word stands at `d`, past the same.
-fn lead_word(s: &[u8], a: usize, b: usize, c: usize, d: usize, classes: &[u8; 256]) -> Lead
-    requires { Classes classes.now }
+fn lead_word(s: &[u8], a: usize, b: usize, c: usize, d: usize) -> Lead
     ensures { result ≡ lead_word s.now a b c d (word_at s.now d) }
 {
-    let WordRead::Word(e, k) = parse_cmd_name(s, d, classes) else {
+    let WordRead::Word(e, k) = parse_cmd_name(s, d) else {
         return lead_left(s, a, b, c, d);
     };
     let f = skip_byte(s, k, 0x21);
-    let g = skip_spaces(s, f, classes);
+    let g = skip_spaces(s, f);
     Lead {
         spaces: a,
         colons: b,
@@ -111,16 +109,15 @@ fn lead_word(s: &[u8], a: usize, b: usize, c: usize, d: usize, classes: &[u8; 25
 }
 
 // The lead of a line. Its range is read by `parse_any_range`: `parse_range` stands where a line is read, and there alone.
-pub fn lead_of(s: &[u8], classes: &[u8; 256]) -> Lead
-    requires { Classes classes.now }
+pub fn lead_of(s: &[u8]) -> Lead
     ensures { result ≡ lead_of s.now }
 {
-    let a = skip_spaces(s, 0, classes);
-    let b = run_end(s, a, classes, Kind::Colon);
-    let c = skip_spaces(s, b, classes);
-    match parse_any_range(s, c, classes) {
-        RangeRead::Absent => lead_word(s, a, b, c, c, classes),
-        RangeRead::Found(_, d) => lead_word(s, a, b, c, d, classes),
+    let a = skip_spaces(s, 0);
+    let b = run_end::<Colon>(s, a);
+    let c = skip_spaces(s, b);
+    match parse_any_range(s, c) {
+        RangeRead::Absent => lead_word(s, a, b, c, c),
+        RangeRead::Found(_, d) => lead_word(s, a, b, c, d),
         RangeRead::TooLarge => lead_left(s, a, b, c, c),
     }
 }
@@ -160,15 +157,14 @@ fn piece_at(l: Lead, at: usize) -> Token
 }
 
 // Whether an item may end at `j`.
-fn parted(s: &[u8], j: usize, classes: &[u8; 256]) -> bool
-    requires { Classes classes.now }
+fn parted(s: &[u8], j: usize) -> bool
     ensures { result ≡ parted_at s.now j }
 {
     if s.len() <= j {
         return true;
     }
     let b = byte_at(s, j);
-    if is_kind(classes, Kind::Space, b) {
+    if Space::has(b) {
         return true;
     }
     b == 0x0A
@@ -194,27 +190,25 @@ fn newline_token(s: &[u8], at: usize) -> Token
 }
 
 // What is left of an argument from `at` on, where it is no list.
-fn unlisted_token(s: &[u8], at: usize, classes: &[u8; 256]) -> Token
-    requires { Classes classes.now }
+fn unlisted_token(s: &[u8], at: usize) -> Token
     ensures { result ≡ item_token s.now at TextEnd.Bad }
 {
     Token {
         kind: TokenKind::Unlisted,
         start: at,
-        stop: run_end(s, at, classes, Kind::Text),
+        stop: run_end::<Text>(s, at),
     }
 }
 
 // The item at `at` that ends at `e`, if it ends.
-fn item_token(s: &[u8], at: usize, e: TextEnd, classes: &[u8; 256]) -> Token
-    requires { Classes classes.now }
+fn item_token(s: &[u8], at: usize, e: TextEnd) -> Token
     ensures { result ≡ item_token s.now at e }
 {
     let TextEnd::End(j) = e else {
-        return unlisted_token(s, at, classes);
+        return unlisted_token(s, at);
     };
-    if !parted(s, j, classes) {
-        return unlisted_token(s, at, classes);
+    if !parted(s, j) {
+        return unlisted_token(s, at);
     }
     if byte_at(s, at) == 0x22 {
         return Token {
@@ -232,15 +226,14 @@ fn item_token(s: &[u8], at: usize, e: TextEnd, classes: &[u8; 256]) -> Token
 
 // Where the item at `at` ends, as `item_end` of the lists says it. That one stands where a list is read, and there alone: called from here
 // too, it would no longer be put there.
-fn item_stop(s: &[u8], at: usize, classes: &[u8; 256]) -> TextEnd
-    requires { Classes classes.now }
+fn item_stop(s: &[u8], at: usize) -> TextEnd
     ensures { result ≡ item_at s.now at }
 {
     if byte_at(s, at) == 0x22 {
         let q = at + 1;
-        return item_of(q, 1, text_end(s, q, true, classes));
+        return item_of(q, 1, text_end(s, q, true));
     }
-    item_of(at, 0, text_end(s, at, false, classes))
+    item_of(at, 0, text_end(s, at, false))
 }
 
 // That nothing is left: it stands at the end of the line.
@@ -255,36 +248,34 @@ fn end_token(s: &[u8]) -> Token
 }
 
 // The token at `at` of an argument and of what stands behind it.
-fn argument_token(s: &[u8], at: usize, classes: &[u8; 256]) -> Token
-    requires { Classes classes.now }
+fn argument_token(s: &[u8], at: usize) -> Token
     ensures { result ≡ argument_token s.now at }
 {
     if s.len() <= at {
         return end_token(s);
     }
     let b = byte_at(s, at);
-    if is_kind(classes, Kind::Space, b) {
+    if Space::has(b) {
         return Token {
             kind: TokenKind::Space,
             start: at,
-            stop: skip_spaces(s, at, classes),
+            stop: skip_spaces(s, at),
         };
     }
     if b == 0x0A {
         return newline_token(s, at);
     }
-    item_token(s, at, item_stop(s, at, classes), classes)
+    item_token(s, at, item_stop(s, at))
 }
 
 // The token at `at` of a line with the lead `lead`.
-pub fn line_token(s: &[u8], lead: Lead, at: usize, classes: &[u8; 256]) -> Token
-    requires { Classes classes.now }
+pub fn line_token(s: &[u8], lead: Lead, at: usize) -> Token
     ensures { result ≡ token_in s.now lead at }
 {
     if at < lead.argument {
         return piece_at(lead, at);
     }
-    argument_token(s, at, classes)
+    argument_token(s, at)
 }
 
 // Where a scanner stands that goes on at `at`, of a line whose argument starts at `argument`.
@@ -298,13 +289,12 @@ fn position_at(argument: usize, at: usize) -> Position
 }
 
 // One step from `at`, where the lead is to be read.
-fn lead_step(s: &[u8], at: usize, classes: &[u8; 256]) -> Scanned
-    requires { Classes classes.now }
+fn lead_step(s: &[u8], at: usize) -> Scanned
     ensures { result ≡ step_at s.now (Position.Lead at) }
 {
-    let lead = lead_of(s, classes);
+    let lead = lead_of(s);
     let argument = lead.argument;
-    let t = line_token(s, lead, at, classes);
+    let t = line_token(s, lead, at);
     let stop = t.stop;
     let p = position_at(argument, stop);
     Scanned {
@@ -314,11 +304,10 @@ fn lead_step(s: &[u8], at: usize, classes: &[u8; 256]) -> Scanned
 }
 
 // One step from `at` of the argument.
-fn argument_step(s: &[u8], at: usize, classes: &[u8; 256]) -> Scanned
-    requires { Classes classes.now }
+fn argument_step(s: &[u8], at: usize) -> Scanned
     ensures { result ≡ step_at s.now (Position.Argument at) }
 {
-    let t = argument_token(s, at, classes);
+    let t = argument_token(s, at);
     let stop = t.stop;
     Scanned {
         token: t,
@@ -326,13 +315,12 @@ fn argument_step(s: &[u8], at: usize, classes: &[u8; 256]) -> Scanned
     }
 }
 
-fn step_with(s: &[u8], position: Position, classes: &[u8; 256]) -> Scanned
-    requires { Classes classes.now }
+fn step_with(s: &[u8], position: Position) -> Scanned
     ensures { result ≡ step_at s.now position }
 {
     match position {
-        Position::Lead(at) => lead_step(s, at, classes),
-        Position::Argument(at) => argument_step(s, at, classes),
+        Position::Lead(at) => lead_step(s, at),
+        Position::Argument(at) => argument_step(s, at),
     }
 }
 
@@ -340,8 +328,7 @@ fn step_with(s: &[u8], position: Position, classes: &[u8; 256]) -> Scanned
 pub fn step(line: &[u8], position: Position) -> Scanned
     ensures { result ≡ step_at line.now position }
 {
-    let classes = classes();
-    step_with(line, position, &classes)
+    step_with(line, position)
 }
 
 // The token that covers the place `at` of a line: its tokens are gone through from the first on.
@@ -351,11 +338,10 @@ pub fn covering_token(line: &[u8], at: usize) -> Token
     if line.len() <= at {
         return end_token(line);
     }
-    let classes = classes();
-    let mut here = lead_step(line, 0, &classes);
+    let mut here = lead_step(line, 0);
     while here.token.stop <= at {
         let position = here.position;
-        here = step_with(line, position, &classes);
+        here = step_with(line, position);
     }
     let t = here.token;
     t

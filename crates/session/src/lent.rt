@@ -2,7 +2,6 @@
 ghost use Rattle.std.specs.Prelude.{◌≡◌, true, ◌≤◌, length};
 ghost use Rattle.limits.specs.Limits.{line_limit, alias_limit};
 ghost use Rattle.limits.specs.Refusals.{refusal_no};
-ghost use Rattle.scan.specs.Bytes.{Classes};
 ghost use Rattle.reading.specs.Alone.{line_room};
 ghost use Rattle.context.specs.Context.{fresh as fresh_context};
 ghost use Rattle.placing.specs.Change.{is_full};
@@ -15,13 +14,12 @@ ghost use Rattle.session.specs.Lent.{fresh_no, fresh_bytes, line_on, bytes_on, l
 use layout::bytes::{clear, remember, remembered, sound};
 use layout::lookup::words_of;
 use layout::places::{ADDED, SESSION};
-use limits::refusal::{Refusal, number};
+use limits::refusal::Refusal;
 use limits::{ALIASES, LAST_COMMAND};
 use placing::insert::put;
 use reading::alone::{Checked, check_line};
 use run::reply::LineReply;
 use run::run::run;
-use scan::classes::classes;
 use scan::part::byte_at;
 use store::put_bytes;
 use tables::find::find;
@@ -42,15 +40,14 @@ pub fn fresh_in(b: &mut [u8]) -> u64
     ensures written { b.new ≡ fresh_bytes b.old }
 {
     if b.len() != SESSION {
-        return number(Refusal::NotASession);
+        return u64::from(Refusal::NotASession);
     }
     clear(b);
     0
 }
 
 // Runs a line that passed the checks, and remembers it.
-fn run_in(b: &mut [u8], line: &[u8], store: &mut [u8], classes: &[u8; 256]) -> LineReply
-    requires classes { Classes classes.now }
+fn run_in(b: &mut [u8], line: &[u8], store: &mut [u8]) -> LineReply
     requires b_len { length b.old ≡ session_size }
     requires line_len_bound { length line.now ≤ line_limit }
     requires line_in_bounds { line_room line.now ≤ length store.old }
@@ -58,7 +55,7 @@ fn run_in(b: &mut [u8], line: &[u8], store: &mut [u8], classes: &[u8; 256]) -> L
     ensures store { store.new ≡ store_after (line_from (table_of (session_of b.old)) fresh_context line.now).out store.old }
     ensures session { b.new ≡ remembering line.now b.old }
 {
-    let reply = run(line, words_of(b), store, classes);
+    let reply = run(line, words_of(b), store);
     remember(b, line);
     reply
 }
@@ -68,22 +65,21 @@ fn turned(x: Refusal) -> LineReply
     ensures { result ≡ reply (turned_of (refusal_no x)) }
 {
     LineReply {
-        refusal: number(x),
+        refusal: u64::from(x),
         readings: 0,
         count: 0,
     }
 }
 
 // Runs a line on bytes that are a session: the checks 1, 12 and 2, and then its run.
-pub fn line_on(b: &mut [u8], line: &[u8], store: &mut [u8], classes: &[u8; 256]) -> LineReply
-    requires classes { Classes classes.now }
-    requires b_value { sound_of b.old ≡ true }
+pub fn line_on(b: &mut [u8], line: &[u8], store: &mut [u8]) -> LineReply
+    requires { sound_of b.old ≡ true }
     ensures answer { result ≡ reply (line_on b.old line.now (length store.old)) }
     ensures store { store.new ≡ store_after (line_on b.old line.now (length store.old)).out store.old }
     ensures session { b.new ≡ bytes_on b.old line.now (length store.old) }
 {
     match check_line(line, store.len()) {
-        Checked::Good => run_in(b, line, store, classes),
+        Checked::Good => run_in(b, line, store),
         Checked::Bad(x) => turned(x),
     }
 }
@@ -97,8 +93,7 @@ pub fn line_in(b: &mut [u8], line: &[u8], store: &mut [u8]) -> LineReply
     if !sound(b) {
         return turned(Refusal::NotASession);
     }
-    let table = classes();
-    line_on(b, line, store, &table)
+    line_on(b, line, store)
 }
 
 // Whether a session has no place for a word: it is a new one, and 32 are there.
@@ -118,17 +113,16 @@ pub fn alias_in(b: &mut [u8], w: &[u8], command: u64) -> u64
     ensures session { b.new ≡ alias_bytes b.old w.now command }
 {
     if !sound(b) {
-        return number(Refusal::NotASession);
+        return u64::from(Refusal::NotASession);
     }
-    let table = classes();
-    if !is_name(w, &table) {
-        return number(Refusal::BadAlias);
+    if !is_name(w) {
+        return u64::from(Refusal::BadAlias);
     }
     if (LAST_COMMAND as u64) < command {
-        return number(Refusal::BadCommand);
+        return u64::from(Refusal::BadCommand);
     }
     if full(b, w) {
-        return number(Refusal::AliasesFull);
+        return u64::from(Refusal::AliasesFull);
     }
     put(b, ADDED, ALIASES, w, command as u8);
     0
@@ -142,14 +136,14 @@ pub fn remembered_in(b: &[u8], store: &mut [u8]) -> CountReply
 {
     if !sound(b) {
         return CountReply {
-            refusal: number(Refusal::NotASession),
+            refusal: u64::from(Refusal::NotASession),
             count: 0,
         };
     }
     let line = remembered(b);
     if store.len() < line.len() {
         return CountReply {
-            refusal: number(Refusal::StoreTooShort),
+            refusal: u64::from(Refusal::StoreTooShort),
             count: 0,
         };
     }

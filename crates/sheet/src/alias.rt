@@ -1,9 +1,8 @@
 // One line of an alias file: a word and a command, by its number or by one of its spellings, with spaces about them.
 use blocks::run::skip_spaces;
 use calls::add_alias;
-use limits::refusal::{Refusal, number};
+use limits::refusal::Refusal;
 use limits::{LINE, MOST};
-use scan::classes::classes;
 use scan::decimal::{Decimal, digits};
 use scan::part::part;
 use spots::bytes::field_end;
@@ -48,7 +47,7 @@ fn add(session: &mut [u8], line: &[u8], w: usize, e: usize, c: usize, f: usize) 
     match command_of(part(line, c, f)) {
         Named::Command(n) => plain(add_alias(session, part(line, w, e), n), 1),
         Named::Unknown => Added {
-            refusal: number(Refusal::UnknownWord),
+            refusal: u64::from(Refusal::UnknownWord),
             kind: 0,
             start: c,
             stop: f,
@@ -58,17 +57,16 @@ fn add(session: &mut [u8], line: &[u8], w: usize, e: usize, c: usize, f: usize) 
 
 // A line of UTF-8. One of spaces alone adds nothing.
 fn read(session: &mut [u8], line: &[u8]) -> Added {
-    let table = classes();
     let n = line.len();
-    let w = skip_spaces(line, 0, &table);
+    let w = skip_spaces(line, 0);
     if n <= w {
         return plain(0, 0);
     }
     let e = field_end(line, w);
-    let c = skip_spaces(line, e, &table);
+    let c = skip_spaces(line, e);
     let f = field_end(line, c);
-    if n <= c || skip_spaces(line, f, &table) != n {
-        return plain(number(Refusal::ParseFailed), 0);
+    if n <= c || skip_spaces(line, f) != n {
+        return plain(u64::from(Refusal::ParseFailed), 0);
     }
     add(session, line, w, e, c, f)
 }
@@ -77,10 +75,10 @@ fn read(session: &mut [u8], line: &[u8]) -> Added {
 // command that there is not (10), and what the session refuses (8, 9, 13).
 pub fn alias_line(session: &mut [u8], line: &[u8]) -> Added {
     if LINE < line.len() {
-        return plain(number(Refusal::LineTooLong), 0);
+        return plain(u64::from(Refusal::LineTooLong), 0);
     }
     if !is_utf8(line) {
-        return plain(number(Refusal::NotUtf8), 0);
+        return plain(u64::from(Refusal::NotUtf8), 0);
     }
     read(session, line)
 }

@@ -1,7 +1,6 @@
 // A sheet: bytes cut into lines, and each line run or added as an alias and told, in fixed memory. 0x0A ends a line and is no part of it; a
 // last line may go without.
 ghost use Rattle.std.specs.Prelude.{◌≤◌, length};
-ghost use Rattle.scan.specs.Bytes.{Classes};
 
 use super::alias::{Added, alias_line};
 use calls::run_line;
@@ -11,7 +10,7 @@ use console::told::Errors;
 use limits::{LINE, STORE};
 use replies::{put_alias_told, put_line_told};
 use run::reply::LineReply;
-use scan::classes::{Kind, classes};
+use scan::classes::Text;
 use scan::part::{byte_at, part};
 use scan::run::run_end;
 use std::io::Read;
@@ -51,13 +50,12 @@ fn stopped(s: Sheet, good: bool) -> Sheet {
 }
 
 // Where the line ends that starts at `at`: at the first 0x0A, or at the end of the bytes.
-fn line_end(s: &[u8], at: usize, classes: &[u8; 256]) -> usize
-    requires at_in_bounds { at ≤ length s.now }
-    requires classes { Classes classes.now }
+fn line_end(s: &[u8], at: usize) -> usize
+    requires { at ≤ length s.now }
     ensures from { at ≤ result }
     ensures within { result ≤ length s.now }
 {
-    run_end(s, at, classes, Kind::Text)
+    run_end::<Text>(s, at)
 }
 
 fn next(n: u64) -> u64 {
@@ -209,12 +207,11 @@ fn through(
     s: Sheet,
     bytes: &[u8],
 ) -> Sheet {
-    let table = classes();
     let mut t = s;
     let mut i: usize = 0;
     while i < bytes.len() {
         let from = i;
-        let e = line_end(bytes, from, &table);
+        let e = line_end(bytes, from);
         let text = part(bytes, from, e);
         i = e + 1;
         if e < bytes.len() && t.held == 0 && !t.aliases {

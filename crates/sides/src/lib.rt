@@ -3,67 +3,62 @@
 #![tactic(auto)]
 
 use console::told::Errors;
-use differences::differ::{Place, Report};
-use files::file::window;
+use differences::differ::{Pair, Place, Report};
+use files::file::Unread;
 use reports::kind::{Kind, kind_of};
 use reports::text::first_line;
-use scan::part::part;
 use texts::put::{put_decimal, put_text};
 
 // How many bytes of a line are shown.
 const SHOWN: usize = 4096;
 
-// How far the text was written, the kind of a line in it, and whether the line could be read.
-#[derive(Clone, Copy)]
-struct Side {
-    at: usize,
-    kind: Kind,
-    good: bool,
-}
-
-// The same of a line of each report.
+// How far the text was written, and the kind of the line in each report.
 #[derive(Clone, Copy)]
 pub struct Both {
     pub at: usize,
     pub a: Kind,
     pub b: Kind,
-    pub good: bool,
+}
+
+// The line that starts at a place of a report, as far as one read brings it. None where the report ends: its last line, the number, is no
+// line to compare.
+fn line_at<'b>(
+    rt: &impl Errors,
+    r: Report<'_>,
+    start: u64,
+    into: &'b mut [u8],
+) -> Result<Option<&'b [u8]>, Unread> {
+    if r.last <= start {
+        return Ok(None);
+    }
+    Ok(Some(first_line(r.bytes(rt, start, into)?)))
+}
+
+// The kind of a line that there may be.
+fn kind_at(line: Option<&[u8]>) -> Kind {
+    match line {
+        Some(text) => kind_of(text),
+        None => Kind::Other,
+    }
 }
 
 // A line of a report as it stands, or as much of it as is shown.
 fn put_line(out: &mut [u8], at: usize, line: &[u8]) -> usize {
-    let i = put_text(out, at, part(line, 0, SHOWN));
+    let shown = &line[..line.len().min(SHOWN)];
+    let i = put_text(out, at, shown);
     if line.len() > SHOWN {
         return put_text(out, i, b"...\n");
     }
     put_text(out, i, b"\n")
 }
 
-// A report's name and the line that starts at a place of it. Its last line, the number, is no line to compare.
-fn put_side(
-    rt: &impl Errors,
-    out: &mut [u8],
-    at: usize,
-    name: &[u8],
-    r: Report<'_>,
-    start: u64,
-) -> Side {
+// A report's name, and a line of it.
+fn put_side(out: &mut [u8], at: usize, name: &[u8], line: Option<&[u8]>) -> usize {
     let i = put_text(out, at, name);
     let j = put_text(out, i, b": ");
-    if r.last <= start {
-        return Side {
-            at: put_text(out, j, b"(the report ends here)\n"),
-            kind: Kind::Other,
-            good: true,
-        };
-    }
-    let mut bytes = [0u8; 65536];
-    let n = window(rt, name, r.file, start, r.last, &mut bytes);
-    let line = first_line(part(&bytes, 0, n));
-    Side {
-        at: put_line(out, j, line),
-        kind: kind_of(line),
-        good: n > 0,
+    match line {
+        Some(text) => put_line(out, j, text),
+        None => put_text(out, j, b"(the report ends here)\n"),
     }
 }
 
@@ -75,24 +70,18 @@ fn put_place(out: &mut [u8], line: u64) -> usize {
 }
 
 // The line at a place, as it stands in each report.
-pub fn put_both(
-    rt: &impl Errors,
-    out: &mut [u8],
-    a_name: &[u8],
-    a: Report<'_>,
-    b_name: &[u8],
-    b: Report<'_>,
-    p: Place,
-) -> Both {
+pub fn put_both(rt: &impl Errors, out: &mut [u8], r: Pair<'_>, p: Place) -> Result<Both, Unread> {
+    let mut x = [0u8; 65536];
+    let of_a = line_at(rt, r.a, p.a, &mut x);
+    let mut y = [0u8; 65536];
+    let of_b = line_at(rt, r.b, p.b, &mut y);
+    let a = of_a?;
+    let b = of_b?;
     let i = put_place(out, p.line);
-    let x = put_side(rt, out, i, a_name, a, p.a);
-    let y = put_side(rt, out, x.at, b_name, b, p.b);
-    let j = x.kind;
-    let k = y.kind;
-    Both {
-        at: y.at,
-        a: j,
-        b: k,
-        good: x.good && y.good,
-    }
+    let j = put_side(out, i, r.a.name, a);
+    Ok(Both {
+        at: put_side(out, j, r.b.name, b),
+        a: kind_at(a),
+        b: kind_at(b),
+    })
 }

@@ -5,8 +5,7 @@ ghost use Rattle.spots.specs.Spot.{Placed};
 use super::bytes::{byte_spot, field_end, trimmed};
 use super::spot::{Spot, nowhere_in, spot_in};
 use blocks::run::skip_spaces;
-use limits::refusal::{Numbered, Refusal, refusal_of};
-use scan::classes::classes;
+use limits::refusal::Refusal;
 
 // The fields of a line: the word from `word` up to `end`, the command from `command` up to `stop`, and what is one too many from `more` on.
 #[derive(Clone, Copy)]
@@ -19,17 +18,16 @@ struct Fields {
 }
 
 fn fields_of(line: &[u8]) -> Fields {
-    let table = classes();
-    let word = skip_spaces(line, 0, &table);
+    let word = skip_spaces(line, 0);
     let end = field_end(line, word);
-    let command = skip_spaces(line, end, &table);
+    let command = skip_spaces(line, end);
     let stop = field_end(line, command);
     Fields {
         word: word,
         end: end,
         command: command,
         stop: stop,
-        more: skip_spaces(line, stop, &table),
+        more: skip_spaces(line, stop),
     }
 }
 
@@ -63,8 +61,8 @@ fn refusal_spot(line: &[u8], x: Refusal) -> Spot
 pub fn alias_spot(line: &[u8], refusal: u64) -> Spot
     ensures { Placed (length line.now) result }
 {
-    match refusal_of(refusal) {
-        Numbered::Refused(x) => refusal_spot(line, x),
-        _ => nowhere_in(line),
+    match Refusal::try_from(refusal) {
+        Ok(x) => refusal_spot(line, x),
+        Err(_) => nowhere_in(line),
     }
 }

@@ -4,8 +4,7 @@ ghost use Rattle.spots.specs.Spot.{Placed};
 ghost use Rattle.spots.specs.Utf8.{BadAt, Utf8UpTo};
 
 use super::spot::{Spot, between, nowhere, nowhere_in, spot_in};
-use blocks::test::not_space;
-use scan::classes::{Kind, classes};
+use scan::classes::{Class, Digit, Space};
 use scan::decimal::{Decimal, digits};
 use scan::part::{byte_at, part};
 use scan::run::run_end;
@@ -15,7 +14,7 @@ use utf8::utf8::is_utf8;
 pub fn field_end(s: &[u8], at: usize) -> usize {
     let mut i = at;
     while i < s.len() {
-        if !not_space(s[i]) {
+        if Space::has(s[i]) {
             return i;
         }
         i += 1;
@@ -27,7 +26,7 @@ pub fn field_end(s: &[u8], at: usize) -> usize {
 pub fn trimmed(s: &[u8], a: usize, e: usize) -> usize {
     let mut i = e;
     while a < i {
-        if not_space(byte_at(s, i - 1)) {
+        if !Space::has(byte_at(s, i - 1)) {
             return i;
         }
         i -= 1;
@@ -46,11 +45,10 @@ fn too_large_at(s: &[u8], at: usize) -> bool {
 
 // The first digits that are a number that is too large.
 pub fn digits_spot(s: &[u8]) -> Spot {
-    let table = classes();
     let mut i: usize = 0;
     while i < s.len() {
         if too_large_at(s, i) {
-            return between(i, run_end(s, i, &table, Kind::Digit));
+            return between(i, run_end::<Digit>(s, i));
         }
         i += 1;
     }

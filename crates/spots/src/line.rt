@@ -9,8 +9,7 @@ use super::bytes::byte_spot;
 use super::places::text_spot;
 use super::spot::{Spot, nowhere_in, plus, spot_in};
 use super::text::{last_text, unknown_spot};
-use limits::refusal::{Numbered, Refusal, refusal_of};
-use scan::classes::classes;
+use limits::refusal::Refusal;
 use scan::part::part;
 
 // The place in the text of the last reading.
@@ -20,10 +19,9 @@ fn read_spot(session: &[u8], line: &[u8], x: Refusal, readings: u64) -> Spot
     if readings == 0 {
         return nowhere_in(line);
     }
-    let table = classes();
-    let t = last_text(line, readings, &table);
+    let t = last_text(line, readings);
     let from = t.from;
-    let p = text_spot(session, part(line, from, t.to), x, &table);
+    let p = text_spot(session, part(line, from, t.to), x);
     spot_in(line, plus(from, p.start), plus(from, p.stop))
 }
 
@@ -46,8 +44,8 @@ pub fn spot_of(session: &[u8], line: &[u8], refusal: u64, readings: u64) -> Spot
     ensures bad { refusal ≡ refusal_no Refusal.NotUtf8 → BadAt line.now result }
     ensures word { refusal ≡ refusal_no Refusal.UnknownWord → UnknownAt line.now readings result }
 {
-    match refusal_of(refusal) {
-        Numbered::Refused(x) => refusal_spot(session, line, x, readings),
-        _ => nowhere_in(line),
+    match Refusal::try_from(refusal) {
+        Ok(x) => refusal_spot(session, line, x, readings),
+        Err(_) => nowhere_in(line),
     }
 }

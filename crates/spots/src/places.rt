@@ -1,13 +1,11 @@
 // The place in a text that the refusal of its reading is about.
-ghost use Rattle.scan.specs.Bytes.{Classes};
 
 use super::bytes::{digits_spot, trimmed};
 use super::spot::{Spot, between, nowhere};
 use layout::lookup::words_of;
-use limits::refusal::{Refusal, number};
+use limits::refusal::Refusal;
 use limits::{LINE, STORE};
 use run::run::run;
-use scan::classes::classes;
 use scan::part::{byte_at, part};
 use scanner::token::{Lead, TokenKind, covering_token, lead_of};
 
@@ -53,9 +51,8 @@ fn is_refused(session: &[u8], s: &[u8], refusal: u64) -> bool {
     if LINE < s.len() {
         return false;
     }
-    let table = classes();
     let mut store = [0u8; STORE];
-    let reply = run(s, words_of(session), &mut store, &table);
+    let reply = run(s, words_of(session), &mut store);
     reply.readings == 1 && reply.refusal == refusal
 }
 
@@ -72,16 +69,14 @@ fn ends_spot(session: &[u8], s: &[u8], l: Lead, refusal: u64) -> Spot {
 }
 
 // The place in a text.
-pub fn text_spot(session: &[u8], s: &[u8], x: Refusal, classes: &[u8; 256]) -> Spot
-    requires { Classes classes.now }
-{
-    let l = lead_of(s, classes);
+pub fn text_spot(session: &[u8], s: &[u8], x: Refusal) -> Spot {
+    let l = lead_of(s);
     match x {
         Refusal::ParseFailed => unread_spot(s, l),
         Refusal::NumberTooLarge => digits_spot(s),
         Refusal::InvalidArgument => argument_spot(s, l),
-        Refusal::InvalidRange => ends_spot(session, s, l, number(x)),
-        Refusal::SumTooLarge => ends_spot(session, s, l, number(x)),
+        Refusal::InvalidRange => ends_spot(session, s, l, u64::from(x)),
+        Refusal::SumTooLarge => ends_spot(session, s, l, u64::from(x)),
         Refusal::Unimplemented => word_spot(l),
         _ => nowhere(),
     }

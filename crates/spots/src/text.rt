@@ -1,12 +1,11 @@
 // The text that the last reading of a line read: what stands behind the prefixes of the readings before it.
 ghost use Rattle.std.specs.Prelude.{◌≤◌, length};
-ghost use Rattle.scan.specs.Bytes.{Classes};
 ghost use Rattle.spots.specs.Spot.{Placed};
 ghost use Rattle.spots.specs.Text.{LastText, UnknownAt};
 
 use super::spot::{Spot, spot_in};
 use blocks::run::skip_spaces;
-use scan::classes::{Kind, classes};
+use scan::classes;
 use scan::part::part;
 use scan::run::run_end;
 use scanner::token::lead_of;
@@ -19,20 +18,19 @@ pub struct Text {
 }
 
 // The text of the last of so many readings.
-pub fn last_text(line: &[u8], readings: u64, classes: &[u8; 256]) -> Text
-    requires { Classes classes.now }
+pub fn last_text(line: &[u8], readings: u64) -> Text
     ensures order { result.from ≤ result.to }
     ensures inside { result.to ≤ length line.now }
     ensures last { LastText line.now readings result.from result.to }
 {
-    let mut from = skip_spaces(line, 0, classes);
+    let mut from = skip_spaces(line, 0);
     let mut to = line.len();
     let mut left = readings;
     while 1 < left {
         let s = part(line, from, to);
-        let l = lead_of(s, classes);
+        let l = lead_of(s);
         let a = l.argument;
-        to = from + run_end(s, a, classes, Kind::Text);
+        to = from + run_end::<classes::Text>(s, a);
         from = from + a;
         left -= 1;
     }
@@ -44,9 +42,8 @@ pub fn unknown_spot(line: &[u8], readings: u64) -> Spot
     ensures placed { Placed (length line.now) result }
     ensures word { UnknownAt line.now readings result }
 {
-    let table = classes();
-    let t = last_text(line, readings, &table);
+    let t = last_text(line, readings);
     let from = t.from;
-    let l = lead_of(part(line, from, t.to), &table);
+    let l = lead_of(part(line, from, t.to));
     spot_in(line, from + l.range, from + l.word)
 }

@@ -10,14 +10,9 @@ pub fn put_bytes(store: &mut [u8], at: usize, src: &[u8]) -> usize
     requires { Room store.old at src.now }
     ensures { Put store.old store.new at result src.now }
 {
-    let mut i = at;
-    let mut j = 0;
-    while j < src.len() {
-        store[i] = src[j];
-        i += 1;
-        j += 1;
-    }
-    i
+    let end = at + src.len();
+    store[at..end].copy_from_slice(src);
+    end
 }
 
 // Writes a number in groups of seven bits.

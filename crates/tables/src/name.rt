@@ -1,15 +1,13 @@
 // Which words a table may have.
 ghost use Rattle.std.specs.Prelude.{◌≡◌};
-ghost use Rattle.scan.specs.Bytes.{Classes};
 ghost use Rattle.tables.specs.Table.{is_name};
 
 use limits::WORD;
-use scan::classes::Kind;
+use scan::classes::Word;
 use scan::run::run_end;
 
 // Whether a word is 1 to 24 word characters.
-pub fn is_name(w: &[u8], classes: &[u8; 256]) -> bool
-    requires { Classes classes.now }
+pub fn is_name(w: &[u8]) -> bool
     ensures { result ≡ is_name w.now }
 {
     let n = w.len();
@@ -19,5 +17,5 @@ pub fn is_name(w: &[u8], classes: &[u8; 256]) -> bool
     if WORD < n {
         return false;
     }
-    run_end(w, 0, classes, Kind::Word) == n
+    run_end::<Word>(w, 0) == n
 }

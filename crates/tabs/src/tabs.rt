@@ -1,6 +1,5 @@
 // The handlers that go to a tab or move one, by a range before the word or as the argument.
 ghost use Rattle.std.specs.Prelude.{◌≡◌};
-ghost use Rattle.scan.specs.Bytes.{Classes};
 ghost use Rattle.tabs.specs.Tabs.{unargued as unargued_of, argued as argued_of, tab_range, focusing, moving, back as back_of, back_end, next_by, tabnext_of, prev_by, tabprev_of, move_argument, move_range, tabmove_of};
 
 use actions::action::{Action, Count, FocusChange, TabAction};
@@ -41,8 +40,7 @@ fn argued(w: WholeRead) -> TabRange
     }
 }
 
-fn tab_range(g: RangeRead, a: &[u8], classes: &[u8; 256]) -> TabRange
-    requires { Classes classes.now }
+fn tab_range(g: RangeRead, a: &[u8]) -> TabRange
     ensures { result ≡ tab_range g a.now }
 {
     if a.len() == 0 {
@@ -50,7 +48,7 @@ fn tab_range(g: RangeRead, a: &[u8], classes: &[u8; 256]) -> TabRange
     }
     match g {
         RangeRead::Found(_, _) => TabRange::Refused(Refusal::InvalidArgument),
-        RangeRead::Absent => argued(parse_whole_range(a, classes)),
+        RangeRead::Absent => argued(parse_whole_range(a)),
         RangeRead::TooLarge => TabRange::Refused(Refusal::NumberTooLarge),
     }
 }
@@ -89,13 +87,12 @@ fn next_by(s: &[u8], a: &[u8], g: TabRange) -> Focused
 }
 
 // The `:tabnext` command. Alias: `tabn`. Goes to the next tab, or to the one that its range or argument names.
-pub fn vim_cmd_tabnext(s: &[u8], d: CommandDescription, classes: &[u8; 256]) -> Done
-    requires { Classes classes.now }
+pub fn vim_cmd_tabnext(s: &[u8], d: CommandDescription) -> Done
     ensures { result ≡ tabnext_of s.now d }
 {
     let g = d.range;
     let a = argument(s, d);
-    focused(next_by(s, a, tab_range(g, a, classes)))
+    focused(next_by(s, a, tab_range(g, a)))
 }
 
 // Digits alone go back as many tabs.
@@ -151,12 +148,11 @@ fn prev_by(g: TabRange) -> Focused
 }
 
 // The `:tabprevious` command. Aliases: `tabp`, `tabN`, `tabNext`. Goes back a tab, or as many as its range or argument says.
-pub fn vim_cmd_tabprev(s: &[u8], d: CommandDescription, classes: &[u8; 256]) -> Done
-    requires { Classes classes.now }
+pub fn vim_cmd_tabprev(s: &[u8], d: CommandDescription) -> Done
     ensures { result ≡ tabprev_of s.now d }
 {
     let g = d.range;
-    focused(prev_by(tab_range(g, argument(s, d), classes)))
+    focused(prev_by(tab_range(g, argument(s, d))))
 }
 
 fn move_argument(a: &[u8], w: WholeRead) -> Focused
@@ -170,8 +166,7 @@ fn move_argument(a: &[u8], w: WholeRead) -> Focused
 }
 
 // The range before the word wins, and the argument is then not looked at.
-fn move_range(s: &[u8], g: RangeRead, a: &[u8], classes: &[u8; 256]) -> Focused
-    requires { Classes classes.now }
+fn move_range(s: &[u8], g: RangeRead, a: &[u8]) -> Focused
     ensures { result ≡ move_range s.now g a.now }
 {
     match g {
@@ -181,16 +176,15 @@ fn move_range(s: &[u8], g: RangeRead, a: &[u8], classes: &[u8; 256]) -> Focused
             if a.len() == 0 {
                 return Focused::To(FocusChange::End);
             }
-            move_argument(a, parse_whole_range(a, classes))
+            move_argument(a, parse_whole_range(a))
         }
     }
 }
 
 // The `:tabmove` command. Alias: `tabm`. Moves the tab to the end, or where its range or argument says.
-pub fn vim_cmd_tabmove(s: &[u8], d: CommandDescription, classes: &[u8; 256]) -> Done
-    requires { Classes classes.now }
+pub fn vim_cmd_tabmove(s: &[u8], d: CommandDescription) -> Done
     ensures { result ≡ tabmove_of s.now d }
 {
     let g = d.range;
-    moved(move_range(s, g, argument(s, d), classes))
+    moved(move_range(s, g, argument(s, d)))
 }

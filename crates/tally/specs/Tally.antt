@@ -1,9 +1,10 @@
 -- The tally of a sheet: for each outcome of a line, how many lines came to it. First stand the refusals, in the order of their numbers, then
 -- numbers that no refusal has, lines with an action, and lines that give nothing. Counts are modulo 2^64.
 -- Assumes nothing.
-use Rattle.std.specs.Prelude.{ℕ, zero, suc, ◌+◌, ◌%◌, ◌^◌, cond, List, length, ◌==◌, slice_index, slice_set}
+use Rattle.std.specs.Prelude.{ℕ, zero, suc, ◌+◌, ◌%◌, ◌^◌, cond, List, length, ◌==◌, slice_index, slice_set, Result, Ok, Err}
 use Rattle.limits.specs.Refusals.{refusals, refusal_of, place_of}
-use Rattle.limits.specs.declared.refusal.Numbered.{Numbered}
+use Rattle.limits.specs.declared.refusal.NoRefusal.{NoRefusal}
+use Rattle.limits.specs.declared.refusal.Refusal.{Refusal}
 use Rattle.scan.specs.Scan.{byte_at}
 use Rattle.run.specs.declared.reply.LineReply.{LineReply}
 
@@ -25,10 +26,9 @@ unfoldable pub added_to : ℕ → ℕ → ℕ
 added_to n m = (n + m) % 2 ^ 64
 
 -- where lines refused by a number are counted
-abbrev entry_by : Numbered → ℕ
-entry_by (Numbered.Refused x) = place_of x
-entry_by Numbered.Accepted = others
-entry_by Numbered.Unused = others
+abbrev entry_by : Result Refusal NoRefusal → ℕ
+entry_by (Ok x) = place_of x
+entry_by (Err _) = others
 
 unfoldable pub entry_of : ℕ → ℕ
 entry_of n = entry_by (refusal_of n)

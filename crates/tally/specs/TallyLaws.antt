@@ -1,11 +1,11 @@
 -- What is said of a tally: a line adds one to the sum of all counts, whatever it comes to, and the lines with an action, those that give
 -- nothing and those refused are all lines.
 -- Assumes nothing.
-use Rattle.std.specs.Prelude.{◌≡◌, ℕ, zero, suc, ◌+◌, ◌<◌, ◌≤◌, Bool, true, false, ◌⊎◌, List, length, ◌==◌, slice_index, slice_set, refl}
+use Rattle.std.specs.Prelude.{◌≡◌, ℕ, zero, suc, ◌+◌, ◌<◌, ◌≤◌, Bool, true, false, ◌⊎◌, List, length, ◌==◌, slice_index, slice_set, refl, Result, Ok, Err}
 use Rattle.std.proofs.Common.{inl, inr, eq-or-lt_of_le, arith, get_or-set_same, get_or-set_other}
 use Rattle.limits.specs.Refusals.{refusals, refusal_of, place_of}
 use Rattle.limits.specs.declared.refusal.Refusal.{Refusal}
-use Rattle.limits.specs.declared.refusal.Numbered.{Numbered}
+use Rattle.limits.specs.declared.refusal.NoRefusal.{NoRefusal}
 use Rattle.scan.specs.Scan.{byte_at}
 use Rattle.run.specs.declared.reply.LineReply.{LineReply}
 use Rattle.tally.specs.Tally.{actions, nothing, counts, added_to, entry_of, outcome_of, with_line, sum_up_to}
@@ -60,10 +60,9 @@ entry_in : (n : ℕ) → entry_of n < counts
 unfolding entry_of
 entry_in n = go (refusal_of n) refl
   where
-    go : (x : Numbered) → refusal_of n ≡ x → entry_of n < counts
-    go (Numbered.Refused x) q = rw q (omega (arith, place_in x))
-    go Numbered.Accepted q = rw q (omega arith)
-    go Numbered.Unused q = rw q (omega arith)
+    go : (x : Result Refusal NoRefusal) → refusal_of n ≡ x → entry_of n < counts
+    go (Ok x) q = rw q (omega (arith, place_in x))
+    go (Err _) q = rw q (omega arith)
 
 outcome_in : (r : LineReply) (written : List ℕ) → outcome_of r written < counts
 unfolding outcome_of

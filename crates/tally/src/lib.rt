@@ -6,7 +6,7 @@ ghost use Rattle.limits.specs.Refusals.{refusals};
 ghost use Rattle.texts.specs.Behind.{Behind};
 ghost use Rattle.tally.specs.Tally.{counts, added_to, entry_of, outcome_of, with_line, sum_up_to};
 
-use limits::refusal::{LAST_REFUSAL, Numbered, REFUSALS, place, refusal_of};
+use limits::refusal::{LAST_REFUSAL, REFUSALS, Refusal};
 use run::reply::LineReply;
 use scan::part::byte_at;
 use texts::put::{put_byte, put_decimal, put_text};
@@ -35,10 +35,9 @@ fn entry(n: u64) -> usize
     ensures value { result ≡ entry_of n }
     ensures bound { result < length refusals + 1 }
 {
-    match refusal_of(n) {
-        Numbered::Refused(x) => place(x),
-        Numbered::Accepted => OTHERS,
-        Numbered::Unused => OTHERS,
+    match Refusal::try_from(n) {
+        Ok(x) => x.place(),
+        Err(_) => OTHERS,
     }
 }
 
@@ -111,10 +110,9 @@ fn put_by(out: &mut [u8], at: usize, n: u64, count: u64) -> usize
 fn put_by_number(out: &mut [u8], at: usize, n: u64, t: &[u64; COUNTS]) -> usize
     ensures { Behind out.old out.new at result }
 {
-    match refusal_of(n) {
-        Numbered::Refused(x) => put_by(out, at, n, t[place(x)]),
-        Numbered::Accepted => at,
-        Numbered::Unused => at,
+    match Refusal::try_from(n) {
+        Ok(x) => put_by(out, at, n, t[x.place()]),
+        Err(_) => at,
     }
 }
 

@@ -1,5 +1,5 @@
 // Text written into a lent buffer.
-#![tactic(auto)]
+#![tactic(auto, using(crate::specs::BehindLaws::behind_then))]
 
 pub mod put;
 pub mod shown;

@@ -15,28 +15,13 @@ pub fn put_byte(out: &mut [u8], at: usize, b: u8) -> usize
     at
 }
 
-// How many bytes stand from a place up to the buffer's end.
-fn room(size: usize, at: usize) -> usize
-    ensures { result ≡ size - at }
-{
-    if at < size { size - at } else { 0 }
-}
-
-fn least(a: usize, b: usize) -> usize
-    ensures { result ≡ a - (a - b) }
-{
-    if a < b { a } else { b }
-}
-
 // One byte, as often as it fits.
 pub fn put_repeated(out: &mut [u8], at: usize, b: u8, count: usize) -> usize
     ensures { Behind out.old out.new at result }
 {
-    let n = least(room(out.len(), at), count);
-    let mut i: usize = 0;
-    while i < n {
+    let n = count.min(out.len().saturating_sub(at));
+    for i in 0..n {
         out[at + i] = b;
-        i += 1;
     }
     at + n
 }
@@ -45,16 +30,14 @@ pub fn put_repeated(out: &mut [u8], at: usize, b: u8, count: usize) -> usize
 pub fn put_text(out: &mut [u8], at: usize, s: &[u8]) -> usize
     ensures { Behind out.old out.new at result }
 {
-    let n = least(room(out.len(), at), s.len());
-    let mut i: usize = 0;
-    while i < n {
+    let n = s.len().min(out.len().saturating_sub(at));
+    for i in 0..n {
         out[at + i] = s[i];
-        i += 1;
     }
     at + n
 }
 
-// A number in decimal. Most have one digit.
+// A number in decimal. Most have one digit. A `for` over the digits' places would be left early, so it is no plainer than the `while`.
 pub fn put_decimal(out: &mut [u8], at: usize, n: u64) -> usize
     ensures { Behind out.old out.new at result }
 {
@@ -91,15 +74,11 @@ fn set_hex(out: &mut [u8], at: usize, b: u8)
 pub fn put_hex(out: &mut [u8], at: usize, s: &[u8]) -> usize
     ensures { Behind out.old out.new at result }
 {
-    let n = least(room(out.len(), at) / 2, s.len());
-    let mut to = at;
-    let mut i: usize = 0;
-    while i < n {
-        set_hex(out, to, s[i]);
-        to += 2;
-        i += 1;
+    let n = s.len().min(out.len().saturating_sub(at) / 2);
+    for i in 0..n {
+        set_hex(out, at + 2 * i, s[i]);
     }
-    to
+    at + 2 * n
 }
 
 // A byte by its number, behind a text that ends in a brace.
@@ -128,13 +107,8 @@ pub fn put_ascii(out: &mut [u8], at: usize, b: u8) -> usize
         0x09 => put_text(out, at, b"\\t"),
         0x0A => put_text(out, at, b"\\n"),
         0x0D => put_text(out, at, b"\\r"),
-        0x7F => put_control(out, at, b),
-        _ => {
-            if b < 0x20 {
-                return put_control(out, at, b);
-            }
-            put_byte(out, at, b)
-        }
+        0x00..0x20 | 0x7F => put_control(out, at, b),
+        _ => put_byte(out, at, b),
     }
 }
 
@@ -176,12 +150,10 @@ pub fn put_quoted(out: &mut [u8], at: usize, s: &[u8]) -> usize
 {
     let mut to = put_byte(out, at, 0x22);
     let mut before: u8 = 0;
-    let mut i: usize = 0;
-    while i < s.len() {
+    for i in 0..s.len() {
         let b = s[i];
         to = put_char(out, to, before, b, byte_at(s, i + 1));
         before = b;
-        i += 1;
     }
     put_byte(out, to, 0x22)
 }

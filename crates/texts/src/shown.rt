@@ -1,5 +1,5 @@
 // A text shown without quotes, and the line under it that marks a part. What is shown is UTF-8, whatever the text is.
-ghost use Rattle.std.specs.Prelude.{◌≡◌, ◌<◌, ◌≤◌, length};
+ghost use Rattle.std.specs.Prelude.{◌≡◌, ◌<◌, ◌≤◌, length, IfSome};
 ghost use Rattle.texts.specs.Behind.{Behind};
 
 use super::put::{
@@ -17,28 +17,26 @@ struct Piece {
 }
 
 // How many bytes a character has that starts with this byte from 0x80 on, if one does.
-fn size_by(first: u8) -> usize {
-    if first < 0xE0 {
-        return 2;
+fn size_by(first: u8) -> usize
+    ensures { 0 < result }
+{
+    match first {
+        0x00..0xE0 => 2,
+        0xE0..0xF0 => 3,
+        _ => 4,
     }
-    if first < 0xF0 { 3 } else { 4 }
 }
 
-// Where the character of several bytes at a position ends, or the position itself if none stands there.
-fn character_end(s: &[u8], i: usize) -> usize
+// Where the character of several bytes at a position ends, if one stands there.
+fn character_end(s: &[u8], i: usize) -> Option<usize>
     requires { i < length s.now }
-    ensures { (i ≤ result) × (result ≤ length s.now) }
+    ensures { IfSome result (λ e. (i < e) × (e ≤ length s.now)) }
 {
-    let b = s[i];
-    let n = size_by(b);
-    if b < 0x80 {
-        return i;
+    let n = size_by(s[i]);
+    if s[i] < 0x80 || s.len() - i < n || !is_utf8(&s[i..i + n]) {
+        return None;
     }
-    if s.len() - i < n {
-        return i;
-    }
-    let end = i + n;
-    if is_utf8(&s[i..end]) { end } else { i }
+    Some(i + n)
 }
 
 // A byte that is a character, or part of none.
@@ -60,13 +58,13 @@ fn put_character(out: &mut [u8], at: usize, c: &[u8], next: usize) -> Piece
     if byte_at(c, 0) == 0xC2 && is_control_end(second) {
         let to = put_control(out, at, second);
         return Piece {
-            next: next,
+            next,
             at: to,
             columns: to - at,
         };
     }
     Piece {
-        next: next,
+        next,
         at: put_text(out, at, c),
         columns: 1,
     }
@@ -78,32 +76,27 @@ fn put_one(out: &mut [u8], at: usize, s: &[u8], i: usize) -> Piece
     ensures behind { Behind out.old out.new at result.at }
     ensures i_lt_next { (i < result.next) × (result.next ≤ length s.now) }
 {
-    let end = character_end(s, i);
-    if end == i {
+    let Some(end) = character_end(s, i) else {
         let to = put_alone(out, at, s[i]);
         return Piece {
             next: i + 1,
             at: to,
             columns: to - at,
         };
-    }
+    };
     put_character(out, at, &s[i..end], end)
 }
 
 // Whether each byte of a text is a character of one column, shown as it is.
 fn is_plain(s: &[u8]) -> bool {
-    let mut i: usize = 0;
-    while i < s.len() {
-        let b = s[i];
-        if b < 0x20 || 0x7E < b {
-            return false;
-        }
-        i += 1;
+    let mut m = true;
+    for i in 0..s.len() {
+        m = m & (0x20 <= s[i]) & (s[i] <= 0x7E);
     }
-    true
+    m
 }
 
-// A text without quotes, character by character.
+// A text without quotes, character by character. The step is a character, so the loop is a `while`.
 fn put_pieces(out: &mut [u8], at: usize, s: &[u8]) -> usize
     ensures { Behind out.old out.new at result }
 {
@@ -156,15 +149,15 @@ fn put_under(out: &mut [u8], line: Under, i: usize, one: Piece, start: usize, st
     }
     Under {
         at: put_repeated(out, line.at, 0x5E, one.columns),
-        marks: line.marks,
+        ..line
     }
 }
 
-// The line under a shown text, character by character.
+// The line under a shown text, character by character, which is the step.
 fn put_marks(out: &mut [u8], at: usize, s: &[u8], start: usize, stop: usize) -> usize
     ensures { Behind out.old out.new at result }
 {
-    let mut line = Under { at: at, marks: at };
+    let mut line = Under { at, marks: at };
     let mut i: usize = 0;
     while i < s.len() {
         let one = piece_at(s, i);

@@ -7,8 +7,7 @@ use super::text::put_line;
 use layout::bytes::sound;
 use layout::lookup::words_of;
 use limits::LINE;
-use limits::refusal::{Refusal, number};
-use scan::classes::classes;
+use limits::refusal::Refusal;
 use session::lent::CountReply;
 
 // A token takes so many bytes.
@@ -19,7 +18,7 @@ fn refused(x: Refusal) -> CountReply
     ensures count { result.count ≡ 0 }
 {
     CountReply {
-        refusal: number(x),
+        refusal: u64::from(x),
         count: 0,
     }
 }
@@ -39,8 +38,7 @@ pub fn tokens_in(b: &[u8], line: &[u8], store: &mut [u8]) -> CountReply
     if store.len() < TOKEN * line.len() {
         return refused(Refusal::StoreTooShort);
     }
-    let table = classes();
-    let n = put_line(store, line, words_of(b), &table);
+    let n = put_line(store, line, words_of(b));
     CountReply {
         refusal: 0,
         count: (n / TOKEN) as u64,

@@ -1,7 +1,6 @@
 // The tokens of a text, and those of the texts of a line, written to a lent store that has room for them.
 ghost use Rattle.std.specs.Prelude.{◌≡◌, ◌+◌, ◌≤◌, suc, length};
 ghost use Rattle.limits.specs.Limits.{line_limit};
-ghost use Rattle.scan.specs.Bytes.{Classes};
 ghost use Rattle.scan.specs.Scan.{part_of};
 ghost use Rattle.store.specs.Splice.{Put, Room};
 ghost use Rattle.scanner.specs.Tokens.{lead_of, tokens_at};
@@ -13,7 +12,7 @@ ghost use Rattle.tokens.specs.Through.{is_prefix, is_prefixed, kind_number, told
 use commands::next::{Role, role_of};
 use layout::bytes::put_two;
 use layout::lookup::find_added;
-use scan::classes::Kind;
+use scan::classes::Text;
 use scan::part::part;
 use scan::run::run_end;
 use scanner::token::{Lead, Token, TokenKind, lead_of, line_token};
@@ -69,9 +68,7 @@ fn put_tokens(
     to: usize,
     o: usize,
     w: u8,
-    classes: &[u8; 256],
 ) -> usize
-    requires classes { Classes classes.now }
     requires lead_value { lead ≡ lead_of s.now }
     requires to_in_bounds { to ≤ length s.now }
     requires o_len_bound { length s.now + o ≤ line_limit }
@@ -81,7 +78,7 @@ fn put_tokens(
     let mut i = from;
     let mut j = at;
     while i < to {
-        let t = line_token(s, lead, i, classes);
+        let t = line_token(s, lead, i);
         j = put_token(store, j, t, o, w);
         i = t.stop;
     }
@@ -137,8 +134,7 @@ fn is_prefixed(words: &[u8], s: &[u8], lead: Lead) -> bool
 }
 
 // The tokens of the texts of a line, which end at `e`.
-fn put_texts(store: &mut [u8], line: &[u8], e: usize, words: &[u8], classes: &[u8; 256]) -> usize
-    requires classes { Classes classes.now }
+fn put_texts(store: &mut [u8], line: &[u8], e: usize, words: &[u8]) -> usize
     requires line_len_bound { length line.now ≤ line_limit }
     requires e_in_bounds { e ≤ length line.now }
     requires room { Room store.old 0 (told_bytes (through (table_of (session_of words.now)) line.now e (suc (length line.now)) 0)) }
@@ -146,23 +142,13 @@ fn put_texts(store: &mut [u8], line: &[u8], e: usize, words: &[u8], classes: &[u
 {
     let mut from: usize = 0;
     let mut at: usize = 0;
-    let mut lead = lead_of(part(line, from, e), classes);
+    let mut lead = lead_of(part(line, from, e));
     let mut again = is_prefixed(words, part(line, from, e), lead);
     while again {
         let a = lead.argument;
-        at = put_tokens(
-            store,
-            at,
-            part(line, from, e),
-            lead,
-            0,
-            a,
-            from,
-            PREFIX,
-            classes,
-        );
+        at = put_tokens(store, at, part(line, from, e), lead, 0, a, from, PREFIX);
         from = from + a;
-        lead = lead_of(part(line, from, e), classes);
+        lead = lead_of(part(line, from, e));
         again = is_prefixed(words, part(line, from, e), lead);
     }
     put_tokens(
@@ -174,32 +160,29 @@ fn put_texts(store: &mut [u8], line: &[u8], e: usize, words: &[u8], classes: &[u
         e - from,
         from,
         WORD,
-        classes,
     )
 }
 
 // Where the texts of a line with the lead `lead` end.
-fn texts_end(words: &[u8], line: &[u8], lead: Lead, classes: &[u8; 256]) -> usize
-    requires classes { Classes classes.now }
-    requires lead_value { lead ≡ lead_of line.now }
+fn texts_end(words: &[u8], line: &[u8], lead: Lead) -> usize
+    requires { lead ≡ lead_of line.now }
     ensures { result ≡ texts_end (table_of (session_of words.now)) line.now }
 {
     if is_prefixed(words, line, lead) {
         let a = lead.argument;
-        return run_end(line, a, classes, Kind::Text);
+        return run_end::<Text>(line, a);
     }
     line.len()
 }
 
 // The tokens of a line.
-pub fn put_line(store: &mut [u8], line: &[u8], words: &[u8], classes: &[u8; 256]) -> usize
-    requires classes { Classes classes.now }
+pub fn put_line(store: &mut [u8], line: &[u8], words: &[u8]) -> usize
     requires line_len_bound { length line.now ≤ line_limit }
     requires room { Room store.old 0 (told_bytes (line_tokens (table_of (session_of words.now)) line.now)) }
     ensures { Put store.old store.new 0 result (told_bytes (line_tokens (table_of (session_of words.now)) line.now)) }
 {
-    let lead = lead_of(line, classes);
-    let e = texts_end(words, line, lead, classes);
-    let at = put_texts(store, line, e, words, classes);
-    put_tokens(store, at, line, lead, e, line.len(), 0, WORD, classes)
+    let lead = lead_of(line);
+    let e = texts_end(words, line, lead);
+    let at = put_texts(store, line, e, words);
+    put_tokens(store, at, line, lead, e, line.len(), 0, WORD)
 }

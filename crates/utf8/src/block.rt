@@ -3,34 +3,12 @@
 // A byte and the two before it tell whether it stands well there, without a state. The test is put in numbers, by differences that stop at 0,
 // the larger and the smaller of two: vector instructions have these for bytes, and comparisons would be more. A block with one of the first
 // bytes 0xC0, 0xC1, 0xDF, 0xE0, 0xED, or 0xF0 and above, is not told, and is read one sequence after the other.
-ghost use Rattle.std.specs.Prelude.{◌≡◌, ℕ, ◌+◌, ◌-◌, ◌≤◌, false, length, if◌then◌else◌};
+ghost use Rattle.std.specs.Prelude.{◌≡◌, ℕ, ◌+◌, ◌-◌, ◌≤◌, true, length, if◌then◌else◌};
 ghost use Rattle.scan.specs.Bytes.{within as within_of};
 ghost use Rattle.utf8.specs.Utf8Blocks.{Usual, Must, Joined, JoinedFrom, Judged, PlaceAt};
 
-use blocks::test::either;
+use scan::block::BLOCK;
 use scan::byte::within;
-
-// How many bytes a block has.
-pub const BLOCK: usize = 32;
-
-fn larger(a: u8, b: u8) -> u8
-    ensures { result ≡ a + (b - a) }
-{
-    if a < b { b } else { a }
-}
-
-fn smaller(a: u8, b: u8) -> u8
-    ensures { result ≡ a - (a - b) }
-{
-    if a < b { a } else { b }
-}
-
-// By how much `a` is above `k`.
-fn above(a: u8, k: u8) -> u8
-    ensures { result ≡ a - k }
-{
-    if k < a { a - k } else { 0 }
-}
 
 // 3 for a byte that follows in a sequence, 0 for any other.
 fn follower(a: u8) -> u8
@@ -43,36 +21,31 @@ fn follower(a: u8) -> u8
 fn must(c: u8, b: u8) -> u8
     ensures { Must c b result }
 {
-    smaller(above(larger(b, above(c, 0x1F)), 0xBF), 3)
+    b.max(c.saturating_sub(0x1F)).saturating_sub(0xBF).min(3)
 }
 
 // 0 only for a byte below 0xF0 that is not 0xED: with the bit of weight 2 turned over, 0xED is 0xEF, the greatest of them.
 fn unusual(a: u8) -> u8
     ensures { result ≡ 0 → Usual a }
 {
-    above(a ^ 2, 0xEE)
+    (a ^ 2).saturating_sub(0xEE)
 }
 
-// False only where `a` stands well behind `b`, which stands behind `c`.
-fn odd(c: u8, b: u8, a: u8) -> bool
-    ensures { result ≡ false → Joined c b a }
+// True only where `a` stands well behind `b`, which stands behind `c`.
+fn joined(c: u8, b: u8, a: u8) -> bool
+    ensures { result ≡ true → Joined c b a }
 {
-    0 < larger(
-        std::num::wrapping_sub_u8(must(c, b), follower(a)),
-        unusual(a),
-    )
+    must(c, b).wrapping_sub(follower(a)).max(unusual(a)) == 0
 }
 
-// False only where each byte of the block behind the two at `t` stands well.
-fn any_odd(s: &[u8], t: usize) -> bool
+// True only where each byte of the block behind the two at `t` stands well.
+fn all_joined(s: &[u8], t: usize) -> bool
     requires { t + 34 ≤ length s.now }
-    ensures { result ≡ false → JoinedFrom s.now t 32 }
+    ensures { result ≡ true → JoinedFrom s.now t 32 }
 {
-    let mut m = false;
-    let mut i: usize = 0;
-    while i < BLOCK {
-        m = either(m, odd(s[t + i], s[t + i + 1], s[t + i + 2]));
-        i += 1;
+    let mut m = true;
+    for i in 0..BLOCK {
+        m = m & joined(s[t + i], s[t + i + 1], s[t + i + 2]);
     }
     m
 }
@@ -99,12 +72,12 @@ fn blocks_end(s: &[u8], at: usize) -> usize
 {
     let mut t = at;
     while BLOCK + 2 <= s.len() - t {
-        if any_odd(s, t) {
+        if !all_joined(s, t) {
             return last_start(s, t);
         }
         t += BLOCK;
     }
-    if any_odd(s, s.len() - BLOCK - 2) {
+    if !all_joined(s, s.len() - BLOCK - 2) {
         return last_start(s, t);
     }
     last_start(s, s.len() - 2)

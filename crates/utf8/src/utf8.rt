@@ -5,8 +5,10 @@ ghost use Rattle.scan.specs.Scan.{byte_at};
 ghost use Rattle.utf8.specs.Utf8 as utf8s;
 ghost use Rattle.utf8.specs.Utf8Laws.{Sequence};
 
-use super::ascii::{any_high_before, least};
-use super::block::{BLOCK, characters_end};
+use super::ascii::Ascii;
+use super::block::characters_end;
+use blocks::all::all_long;
+use scan::block::BLOCK;
 use scan::byte::within;
 use scan::part::byte_at;
 
@@ -52,13 +54,6 @@ fn highest(b: u8) -> u8
     0xBF
 }
 
-// A sequence of one character at a position: where the next one starts, or that it is none.
-#[derive(Clone, Copy)]
-pub enum SequenceRead {
-    Next(usize),
-    Bad,
-}
-
 // The byte at `i` is one that may follow.
 fn follows(s: &[u8], i: usize, low: u8, high: u8) -> bool
     ensures { result ≡ within_of low high (byte_at s.now i) }
@@ -66,69 +61,66 @@ fn follows(s: &[u8], i: usize, low: u8, high: u8) -> bool
     within(low, high, byte_at(s, i))
 }
 
-// The sequence at `i`, by its first byte and those that must follow it.
-fn any_sequence(s: &[u8], i: usize) -> SequenceRead
+// The sequence of one character at `i`, by its first byte and those that must follow it: where the next one starts, if it is one.
+fn any_sequence(s: &[u8], i: usize) -> Option<usize>
     requires { i < length s.now }
     ensures { Sequence s.now i result }
 {
     let b = s[i];
     let n = followers(b);
     if n == 0 {
-        return SequenceRead::Next(i + 1);
+        return Some(i + 1);
     }
     if n == 4 {
-        return SequenceRead::Bad;
+        return None;
     }
     if !follows(s, i + 1, lowest(b), highest(b)) {
-        return SequenceRead::Bad;
+        return None;
     }
     if n == 1 {
-        return SequenceRead::Next(i + 2);
+        return Some(i + 2);
     }
     if !follows(s, i + 2, 0x80, 0xBF) {
-        return SequenceRead::Bad;
+        return None;
     }
     if n == 2 {
-        return SequenceRead::Next(i + 3);
+        return Some(i + 3);
     }
     if !follows(s, i + 3, 0x80, 0xBF) {
-        return SequenceRead::Bad;
+        return None;
     }
-    SequenceRead::Next(i + 4)
+    Some(i + 4)
 }
 
 // The same, with the commonest first: those of one byte and of two.
-fn sequence(s: &[u8], i: usize) -> SequenceRead
+fn sequence(s: &[u8], i: usize) -> Option<usize>
     requires { i < length s.now }
     ensures { Sequence s.now i result }
 {
     let b = s[i];
     if b < 0x80 {
-        return SequenceRead::Next(i + 1);
+        return Some(i + 1);
     }
     if within(0xC2, 0xDF, b) {
         if follows(s, i + 1, 0x80, 0xBF) {
-            return SequenceRead::Next(i + 2);
+            return Some(i + 2);
         }
-        return SequenceRead::Bad;
+        return None;
     }
     any_sequence(s, i)
 }
 
 // Sequences one after the other from `at` on, until one ends at `stop` or behind it.
-fn sequences(s: &[u8], at: usize, stop: usize) -> SequenceRead
+fn sequences(s: &[u8], at: usize, stop: usize) -> Option<usize>
     requires at_lt_stop { at < stop }
     requires stop_in_bounds { stop ≤ length s.now }
     ensures { Sequence s.now at result }
 {
     let mut i = at;
     while i < stop {
-        let SequenceRead::Next(j) = sequence(s, i) else {
-            return SequenceRead::Bad;
-        };
-        i = j;
+        i = sequence(s, i)?;
     }
-    SequenceRead::Next(i)
+    Some(i)
 }
 
 // Whether a text is UTF-8: `first` bytes by sequences, then by blocks, and behind a block that is not told as many bytes by sequences again.
@@ -139,7 +131,7 @@ fn by_blocks(s: &[u8], first: usize) -> bool
     let mut i: usize = 0;
     let mut n = first;
     while i < s.len() {
-        let SequenceRead::Next(j) = sequences(s, i, i + least(n, s.len() - i)) else {
+        let Some(j) = sequences(s, i, i + n.min(s.len() - i)) else {
             return false;
         };
         i = characters_end(s, j);
@@ -153,7 +145,7 @@ fn by_blocks(s: &[u8], first: usize) -> bool
 pub fn is_utf8(s: &[u8]) -> bool
     ensures { result ≡ utf8s.is_utf8 s.now }
 {
-    if !any_high_before(s, s.len()) {
+    if all_long::<Ascii>(s) {
         return true;
     }
     if s.len() < BLOCK + 2 {

@@ -1,6 +1,8 @@
 // Which sentence two reports get, by the first line that differs.
 use super::above::Above;
 use reports::kind::Kind;
+use reports::names::Names;
+use std::cmp::min_by_key;
 use texts::put::{put_decimal, put_text};
 
 // The sentences.
@@ -14,30 +16,33 @@ pub enum Verdict {
     Line(u64),
     AliasLine(u64),
     Answers,
-    SheetName,
-    AliasName,
-    BothNames,
+    Names(Names),
 }
 
-// Which of two kinds decides: the lower.
-fn rank(k: Kind) -> u8 {
+// The kinds as they decide: the first before all others.
+#[derive(Clone, Copy, PartialEq, Eq, PartialOrd, Ord)]
+enum Rank {
+    File,
+    Text,
+    Alias,
+    Numbered,
+    Other,
+}
+
+// How a kind decides.
+fn rank_of(k: Kind) -> Rank {
     match k {
-        Kind::Sheet => 0,
-        Kind::Aliases => 0,
-        Kind::Reference => 0,
-        Kind::Text => 1,
-        Kind::Alias(_) => 2,
-        Kind::Numbered(_) => 3,
-        _ => 4,
+        Kind::Sheet | Kind::Aliases | Kind::Reference => Rank::File,
+        Kind::Text => Rank::Text,
+        Kind::Alias(_) => Rank::Alias,
+        Kind::Numbered(_) => Rank::Numbered,
+        _ => Rank::Other,
     }
 }
 
 // The kind that decides, the first report's where they are alike.
 fn deciding(a: Kind, b: Kind) -> Kind {
-    if rank(b) < rank(a) {
-        return b;
-    }
-    a
+    min_by_key(a, b, |k| rank_of(*k))
 }
 
 // The kind of a line, or of the line that it is a text under.
@@ -55,27 +60,17 @@ fn on_kind(k: Kind, sheet: bool) -> Verdict {
         Kind::Aliases => Verdict::Aliases,
         Kind::Reference => Verdict::References,
         Kind::Alias(n) => Verdict::AliasLine(n),
-        Kind::Numbered(n) => {
-            if sheet {
-                return Verdict::Line(n);
-            }
-            Verdict::Answers
-        }
+        Kind::Numbered(n) if sheet => Verdict::Line(n),
         _ => Verdict::Answers,
     }
 }
 
 // The verdict on first lines: the program and its version.
 fn on_first(a: Kind, b: Kind) -> Verdict {
-    match a {
-        Kind::Exsheet => match b {
-            Kind::Exsheet => Verdict::Versions,
-            _ => Verdict::Programs,
-        },
-        _ => match b {
-            Kind::Exsheet => Verdict::Programs,
-            _ => Verdict::Versions,
-        },
+    if (a == Kind::Exsheet) == (b == Kind::Exsheet) {
+        Verdict::Versions
+    } else {
+        Verdict::Programs
     }
 }
 
@@ -84,19 +79,7 @@ pub fn verdict_on(line: u64, a: Kind, b: Kind, x: Above) -> Verdict {
     if line == 1 {
         return on_first(a, b);
     }
-    let k = over(deciding(a, b), x);
-    on_kind(k, x.sheet)
-}
-
-// The verdict where names alone differ: the sheet's, the alias file's, or both.
-pub fn verdict_on_names(sheet: bool, aliases: bool) -> Verdict {
-    if sheet && aliases {
-        return Verdict::BothNames;
-    }
-    if sheet {
-        return Verdict::SheetName;
-    }
-    Verdict::AliasName
+    on_kind(over(deciding(a, b), x), x.sheet)
 }
 
 // A sentence about a line of a file.
@@ -133,17 +116,17 @@ fn put_sentence(out: &mut [u8], at: usize, v: Verdict) -> usize {
             b" of it on",
         ),
         Verdict::Answers => put_text(out, at, b"the two installations answer differently"),
-        Verdict::SheetName => put_text(
+        Verdict::Names(Names::Sheet) => put_text(
             out,
             at,
             b"the reports differ only in the name of the sheet",
         ),
-        Verdict::AliasName => put_text(
+        Verdict::Names(Names::Aliases) => put_text(
             out,
             at,
             b"the reports differ only in the name of the alias file",
         ),
-        Verdict::BothNames => put_text(
+        Verdict::Names(Names::Both) => put_text(
             out,
             at,
             b"the reports differ only in the names of the sheet and the alias file",

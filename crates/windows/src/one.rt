@@ -1,6 +1,5 @@
 // An argument that may name one thing.
 ghost use Rattle.std.specs.Prelude.{◌≡◌};
-ghost use Rattle.scan.specs.Bytes.{Classes};
 ghost use Rattle.windows.specs.One.{only_picked, only_read, only_item};
 
 use limits::refusal::Refusal;
@@ -40,9 +39,8 @@ fn only_read(l: ListRead) -> OnlyItem
 }
 
 // The item of the argument `a`, of which there may be one.
-pub fn only_item(a: &[u8], classes: &[u8; 256]) -> OnlyItem
-    requires { Classes classes.now }
+pub fn only_item(a: &[u8]) -> OnlyItem
     ensures { result ≡ only_item a.now }
 {
-    only_read(parse_list(a, 0, false, classes))
+    only_read(parse_list(a, 0, false))
 }

@@ -1,6 +1,5 @@
 // The handlers that open a window or a tab: `:split`, `:vsplit`, `:view` and `:tabedit`.
 ghost use Rattle.std.specs.Prelude.{◌≡◌};
-ghost use Rattle.scan.specs.Bytes.{Classes};
 ghost use Rattle.windows.specs.Open.{target_of, opened_by, opened, opening as opening_of, viewing as viewing_of, sized_by, size_of, window_target, window_by, switch_by, tab_at, tab_by, split_of, vsplit_in, view_of, tabedit_of};
 
 use super::one::{OnlyItem, only_item};
@@ -52,11 +51,10 @@ fn opened_by(a: &[u8], unnamed: OpenTarget, x: OnlyItem) -> Opened
 }
 
 // What the argument `a` names, or else `unnamed`.
-fn open_target(a: &[u8], unnamed: OpenTarget, classes: &[u8; 256]) -> Opened
-    requires { Classes classes.now }
+fn open_target(a: &[u8], unnamed: OpenTarget) -> Opened
     ensures { result ≡ opened a.now unnamed }
 {
-    opened_by(a, unnamed, only_item(a, classes))
+    opened_by(a, unnamed, only_item(a))
 }
 
 fn opening(bang: bool) -> OpenFlags
@@ -144,8 +142,7 @@ fn tab_by(t: Opened, f: OpenFlags, c: Focused) -> Done
 
 // The `:split` command. Alias: `sp`. Opens a window of the size that its range says, or else splits the current one; behind a tab prefix it
 // opens a tab.
-pub fn vim_cmd_sp(s: &[u8], d: CommandDescription, x: CommandContext, classes: &[u8; 256]) -> Done
-    requires { Classes classes.now }
+pub fn vim_cmd_sp(s: &[u8], d: CommandDescription, x: CommandContext) -> Done
     ensures { result ≡ split_of s.now d x }
 {
     let g = d.range;
@@ -153,7 +150,7 @@ pub fn vim_cmd_sp(s: &[u8], d: CommandDescription, x: CommandContext, classes: &
     window_by(
         x.with_open_flags(opening(d.bang)),
         window_size(s, g),
-        open_target(a, OpenTarget::Current, classes),
+        open_target(a, OpenTarget::Current),
     )
 }
 
@@ -166,26 +163,24 @@ pub fn vim_cmd_vs(x: CommandContext) -> CommandContext
 }
 
 // The `:view` command. Alias: `vie`. Opens a file for reading.
-pub fn vim_cmd_view(s: &[u8], d: CommandDescription, x: CommandContext, classes: &[u8; 256]) -> Done
-    requires { Classes classes.now }
+pub fn vim_cmd_view(s: &[u8], d: CommandDescription, x: CommandContext) -> Done
     ensures { result ≡ view_of s.now d x }
 {
     let a = argument(s, d);
     switch_by(
         x.with_open_flags(viewing(d.bang)),
-        open_target(a, OpenTarget::Current, classes),
+        open_target(a, OpenTarget::Current),
     )
 }
 
 // The `:tabedit` command. Aliases: `tabe`, `tabnew`. Opens a tab.
-pub fn vim_cmd_tabedit(s: &[u8], d: CommandDescription, classes: &[u8; 256]) -> Done
-    requires { Classes classes.now }
+pub fn vim_cmd_tabedit(s: &[u8], d: CommandDescription) -> Done
     ensures { result ≡ tabedit_of s.now d }
 {
     let g = d.range;
     let a = argument(s, d);
     tab_by(
-        open_target(a, OpenTarget::Unnamed, classes),
+        open_target(a, OpenTarget::Unnamed),
         opening(d.bang),
         window_range_target(s, g),
     )

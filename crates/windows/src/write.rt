@@ -1,6 +1,5 @@
 // The handlers that write windows: `:write` and `:wall`.
 ghost use Rattle.std.specs.Prelude.{◌≡◌};
-ghost use Rattle.scan.specs.Bytes.{Classes};
 ghost use Rattle.windows.specs.Write.{writing as writing_of, write_as, write_by, write_of, wall_of};
 
 use super::one::{OnlyItem, only_item};
@@ -35,11 +34,10 @@ fn write_by(x: OnlyItem, f: WriteFlags) -> Done
 }
 
 // The `:write` command. Alias: `w`. Writes the window, under a name if one is given.
-pub fn vim_cmd_write(s: &[u8], d: CommandDescription, classes: &[u8; 256]) -> Done
-    requires { Classes classes.now }
+pub fn vim_cmd_write(s: &[u8], d: CommandDescription) -> Done
     ensures { result ≡ write_of s.now d }
 {
-    write_by(only_item(argument(s, d), classes), writing(d.bang))
+    write_by(only_item(argument(s, d)), writing(d.bang))
 }
 
 // The `:wall` command. Alias: `wa`. Writes all windows.

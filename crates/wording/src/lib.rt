@@ -1,4 +1,4 @@
 // The words in which actions are told to the people at the console: those of bindings/rust/src/words.rs.
-#![tactic(auto)]
+#![tactic(auto, using(texts::specs::BehindLaws::behind_then))]
 
 pub mod record;

@@ -19,8 +19,7 @@ fn window_or_tab(
 {
     let n = number(record, s.from);
     let t = past(s, n);
-    let v = n.value;
-    match v {
+    match n.value {
         0 => focus_behind(record, out, t, single),
         1 => focus_behind(record, out, t, but),
         2 => said(out, t, all),
@@ -34,8 +33,7 @@ fn open_target(record: &[u8], out: &mut [u8], s: Step) -> Step
 {
     let n = number(record, s.from);
     let t = past(s, n);
-    let v = n.value;
-    match v {
+    match n.value {
         0 => said(out, t, b"current"),
         1 => said(out, t, b"alternate"),
         2 => said(out, t, b"unnamed"),
@@ -50,8 +48,7 @@ fn written_name(record: &[u8], out: &mut [u8], s: Step) -> Step
 {
     let n = number(record, s.from);
     let t = past(s, n);
-    let v = n.value;
-    match v {
+    match n.value {
         0 => t,
         1 => {
             let u = said(out, t, b" to ");
@@ -75,8 +72,7 @@ fn change(record: &[u8], out: &mut [u8], s: Step) -> Step
 {
     let n = number(record, s.from);
     let t = past(s, n);
-    let v = n.value;
-    match v {
+    match n.value {
         0 => decimal_behind(record, out, t, b" to "),
         1 => decimal_behind(record, out, t, b" by +"),
         2 => decimal_behind(record, out, t, b" by -"),
@@ -138,8 +134,7 @@ fn side(record: &[u8], out: &mut [u8], s: Step) -> Step
 {
     let n = number(record, s.from);
     let t = past(s, n);
-    let v = n.value;
-    match v {
+    match n.value {
         0 => one_of(record, out, t, b", below", b", above"),
         1 => one_of(record, out, t, b", on the right", b", on the left"),
         _ => bad(t),
@@ -174,8 +169,7 @@ fn times(record: &[u8], out: &mut [u8], s: Step) -> Step
 {
     let n = number(record, s.from);
     let t = past(s, n);
-    let v = n.value;
-    match v {
+    match n.value {
         0 => said(out, t, b", as often as the context says"),
         1 => often(record, out, t),
         _ => bad(t),
@@ -252,8 +246,7 @@ fn action(record: &[u8], out: &mut [u8], s: Step) -> Step
 {
     let n = number(record, s.from);
     let t = past(s, n);
-    let v = n.value;
-    match v {
+    match n.value {
         0 => said(out, t, b"nothing"),
         1 => close_window(record, out, t),
         2 => resize(record, out, t),
@@ -278,7 +271,7 @@ pub fn put_record(out: &mut [u8], at: usize, record: &[u8]) -> usize
         out,
         Step {
             from: 0,
-            at: at,
+            at,
             good: true,
         },
     );

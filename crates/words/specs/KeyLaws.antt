@@ -1,7 +1,8 @@
 -- Laws of lookup by numbers: it finds what lookup by bytes finds.
 -- Assumes nothing.
 use Rattle.std.specs.Prelude.{◌≡◌, refl, Bool, true, false, ◌&&◌, List, [], ◌∷◌, ◌++◌, ℕ, zero, suc, ◌+◌, ◌*◌, ◌^◌, ◌<◌, ◌≤◌, eqb, ltb, leb, length, get_or, take, drop}
-use Rattle.std.proofs.Common.{◌∙◌, sym, ap, pow-suc, add-mul, mul_assoc, mul_comm, zero-add, arith, drop_of_length-le, length-drop, take_all, take-add, drop-drop, length-take-le, eqb-true, eq-eqb, ne_eqb, ltb-true, leb-true}
+use Rattle.std.proofs.Common.{◌∙◌, sym, ap, add-one, pow-suc, add-mul, mul_assoc, mul_comm, zero-add, arith, drop_of_length-le, length-drop, take_all, take-add, drop-drop, length-take-le, eqb-true, eq-eqb, ne_eqb, ltb-true, leb-true}
+use Rattle.std.proofs.Math.Nat.{pow-le-pow_right}
 use Rattle.std.proofs.Math.Decide.{dec_lt}
 use Rattle.std.proofs.lemmas.Bool.{eqb-false}
 use Rattle.scan.specs.RunLaws.{and_left, and_right, drop_step}
@@ -219,6 +220,18 @@ number_join w i m n a b h e f =
     let t : take (m + n) l ≡ xs ++ ys = take-add m n l in
     rw (e ∙ number_pack 0 w i m (omega arith), f ∙ number_pack 0 w (i + m) n (omega arith), number_pack 0 w i (m + n) h, ← d)
     (sym (ap (pack_from 0) t ∙ pack_joined 0 xs ys ∙ pack_behind (pack_from 0 xs) ys ∙ ap (λ (z : ℕ). pack_from 0 xs * 256 ^ z + pack_from 0 ys) s))
+
+-- and one byte more
+pub number_next : (w : List ℕ) (i k n : ℕ) → i + k < length w → n ≡ number_at 0 w i k → n * 256 + get_or w (i + k) 0 ≡ number_at 0 w i (k + 1)
+unfolding number_at
+number_next w i k n h e = number_join w i k 1 n (get_or w (i + k) 0) (omega arith) e (sym (zero-add (get_or w (i + k) 0)))
+
+pub pow_next : (k : ℕ) → 256 ^ (k + 1) ≡ 256 ^ k * 256
+pow_next k = rw add-one (pow-suc 256 k)
+
+-- six bytes, or fewer
+pub few_fit : (k : ℕ) → k ≤ 6 → 256 ^ k ≤ 256 ^ 6
+few_fit k h = pow-le-pow_right (omega arith) h
 
 pub number_one : (w : List ℕ) (i : ℕ) → get_or w i 0 ≡ number_at 0 w i 1
 unfolding number_at

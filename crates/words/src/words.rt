@@ -1,6 +1,6 @@
 // The shipped words: 28 names and 42 aliases, 68 different words, each leading to a command by its number in default_cmds' order.
 // A word is looked up by its length and by two numbers, which its first eight bytes and the rest make.
-ghost use Rattle.std.specs.Prelude.{◌≡◌, cond, ◌+◌, ◌≤◌, ◌<◌, eqb, length};
+ghost use Rattle.std.specs.Prelude.{◌≡◌, cond, ◌+◌, ◌≤◌, eqb, length};
 ghost use Rattle.scan.specs.Number.{number_at};
 ghost use Rattle.words.specs.declared.words.Named.{Named};
 ghost use Rattle.words.specs.Words.{lookup as lookup_of};
@@ -15,67 +15,17 @@ pub enum Named {
     Unknown,
 }
 
-// The number of the byte at `i`. Of several the first counts highest.
-fn one(w: &[u8], i: usize) -> u64
-    requires { i + 1 ≤ length w.now }
-    ensures value { result ≡ number_at 0 w.now i 1 }
-    ensures bound { result < 256 }
+// The number of the `N` bytes from `i` on: of several the first counts highest.
+fn number<const N: usize>(w: &[u8], i: usize) -> u64
+    requires few { N ≤ 7 }
+    requires inside { i + N ≤ length w.now }
+    ensures { result ≡ number_at 0 w.now i N }
 {
-    w[i] as u64
-}
-
-// The number of the two bytes from `i` on.
-fn two(w: &[u8], i: usize) -> u64
-    requires { i + 2 ≤ length w.now }
-    ensures value { result ≡ number_at 0 w.now i 2 }
-    ensures bound { result < 65536 }
-{
-    one(w, i) * 256 + one(w, i + 1)
-}
-
-// The number of the three bytes from `i` on.
-fn three(w: &[u8], i: usize) -> u64
-    requires { i + 3 ≤ length w.now }
-    ensures value { result ≡ number_at 0 w.now i 3 }
-    ensures bound { result < 16777216 }
-{
-    two(w, i) * 256 + one(w, i + 2)
-}
-
-// The number of the four bytes from `i` on.
-fn four(w: &[u8], i: usize) -> u64
-    requires { i + 4 ≤ length w.now }
-    ensures value { result ≡ number_at 0 w.now i 4 }
-    ensures bound { result < 4294967296 }
-{
-    two(w, i) * 65536 + two(w, i + 2)
-}
-
-// The number of the five bytes from `i` on.
-fn five(w: &[u8], i: usize) -> u64
-    requires { i + 5 ≤ length w.now }
-    ensures value { result ≡ number_at 0 w.now i 5 }
-    ensures bound { result < 1099511627776 }
-{
-    four(w, i) * 256 + one(w, i + 4)
-}
-
-// The number of the six bytes from `i` on.
-fn six(w: &[u8], i: usize) -> u64
-    requires { i + 6 ≤ length w.now }
-    ensures value { result ≡ number_at 0 w.now i 6 }
-    ensures bound { result < 281474976710656 }
-{
-    four(w, i) * 65536 + two(w, i + 4)
-}
-
-// The number of the seven bytes from `i` on.
-fn seven(w: &[u8], i: usize) -> u64
-    requires { i + 7 ≤ length w.now }
-    ensures value { result ≡ number_at 0 w.now i 7 }
-    ensures bound { result < 72057594037927936 }
-{
-    four(w, i) * 16777216 + three(w, i + 4)
+    let mut n: u64 = 0;
+    for k in 0..N {
+        n = n * 256 + w[i + k] as u64;
+    }
+    n
 }
 
 // The words of 1 byte.
@@ -328,17 +278,17 @@ pub fn lookup(w: &[u8]) -> Named
     ensures { result ≡ lookup_of w.now }
 {
     match w.len() {
-        1 => word1(one(w, 0)),
-        2 => word2(two(w, 0)),
-        3 => word3(three(w, 0)),
-        4 => word4(four(w, 0)),
-        5 => word5(five(w, 0)),
-        6 => word6(six(w, 0)),
-        7 => word7(seven(w, 0)),
+        1 => word1(number::<1>(w, 0)),
+        2 => word2(number::<2>(w, 0)),
+        3 => word3(number::<3>(w, 0)),
+        4 => word4(number::<4>(w, 0)),
+        5 => word5(number::<5>(w, 0)),
+        6 => word6(number::<6>(w, 0)),
+        7 => word7(number::<7>(w, 0)),
         8 => word8(eight(w, 0)),
-        9 => word9(eight(w, 0), one(w, 8)),
-        10 => word10(eight(w, 0), two(w, 8)),
-        11 => word11(eight(w, 0), three(w, 8)),
+        9 => word9(eight(w, 0), number::<1>(w, 8)),
+        10 => word10(eight(w, 0), number::<2>(w, 8)),
+        11 => word11(eight(w, 0), number::<3>(w, 8)),
         _ => Named::Unknown,
     }
 }

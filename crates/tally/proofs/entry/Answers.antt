@@ -5,14 +5,10 @@ use Rattle.limits.specs.RefusalsLaws.{refusals_count}
 use Rattle.tally.specs.Tally.{entry_of}
 use Rattle.tally.proofs.entry.Goals as goal
 
-pub returns-in-Refused : goal.returns-in-Refused
+pub returns-in-Ok : goal.returns-in-Ok
 unfolding entry_of
-returns-in-Refused c = let e = sym c.refusal_of.ensures ∙ c.in-Refused.is in record { value = rw e c.place.ensures.value; bound = omega (arith, c.place.ensures.bound) }
+returns-in-Ok c = let e = sym c.try_from.ensures ∙ c.in-Ok.is in record { value = rw e c.place.ensures.value; bound = omega (arith, c.place.ensures.bound) }
 
-pub returns-in-Accepted : goal.returns-in-Accepted
+pub returns-in-Err : goal.returns-in-Err
 unfolding entry_of
-returns-in-Accepted c = record { value = rw (sym c.refusal_of.ensures ∙ c.in-Accepted.is, refusals_count); bound = omega (arith, refusals_count) }
-
-pub returns-in-Unused : goal.returns-in-Unused
-unfolding entry_of
-returns-in-Unused c = record { value = rw (sym c.refusal_of.ensures ∙ c.in-Unused.is, refusals_count); bound = omega (arith, refusals_count) }
+returns-in-Err c = record { value = rw (sym c.try_from.ensures ∙ c.in-Err.is, refusals_count); bound = omega (arith, refusals_count) }

@@ -4,12 +4,11 @@ use native.Mathlib.Omega.{arith}
 use lib.ListN.{length}
 use Rattle.lists.specs.ListLaws.{text_length}
 use Rattle.actions.specs.Within.{named_room, within_named}
-use borrow.Author.Rules.{rules}
 use Rattle.actions.proofs.record.put_item_within.Goals as goal
 
 pub put_item-requires : goal.put_item-requires
 put_item-requires c = let a = c.args in
-    record { classes = search rules; room = named_room _ (length a.s.now) (text_length a.s.now a.start) (omega arith) c.requires.s_in_bounds }
+    (named_room _ (length a.s.now) (text_length a.s.now a.start) (omega arith) c.requires)
 
 pub returns : goal.returns
 returns c = let a = c.args in

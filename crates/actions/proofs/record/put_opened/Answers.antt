@@ -4,15 +4,6 @@ use native.Mathlib.Omega.{arith}
 use Rattle.actions.specs.Within.{within_then, within_more}
 use Rattle.actions.proofs.record.put_opened.Goals as goal
 
-pub returns-in-Current : goal.returns-in-Current
-returns-in-Current c = rw c.in-Current.is (within_more _ _ (omega arith) c.put_small.ensures)
-
-pub returns-in-Alternate : goal.returns-in-Alternate
-returns-in-Alternate c = rw c.in-Alternate.is (within_more _ _ (omega arith) c.put_small-in-Alternate.ensures)
-
-pub returns-in-Unnamed : goal.returns-in-Unnamed
-returns-in-Unnamed c = rw c.in-Unnamed.is (within_more _ _ (omega arith) c.put_small-in-Unnamed.ensures)
-
 pub returns-in-Name : goal.returns-in-Name
 returns-in-Name c = rw c.in-Name.is
     (within_more _ _ (omega arith) (within_then _ _ c.put_small-i.ensures c.put_item_within.ensures))

@@ -4,15 +4,6 @@ use native.Mathlib.Omega.{arith}
 use Rattle.actions.specs.Within.{within_then, within_more}
 use Rattle.actions.proofs.record.put_tab_action.Goals as goal
 
-pub returns-in-Close : goal.returns-in-Close
-returns-in-Close c = rw c.in-Close.is (within_more _ _ (omega arith) c.put_closed.ensures)
-
-pub returns-in-Focus : goal.returns-in-Focus
-returns-in-Focus c = rw c.in-Focus.is (within_more _ _ (omega arith) c.put_focused.ensures)
-
-pub returns-in-Move : goal.returns-in-Move
-returns-in-Move c = rw c.in-Move.is (within_more _ _ (omega arith) c.put_focused-in-Move.ensures)
-
 pub returns-in-Open : goal.returns-in-Open
 returns-in-Open c = rw c.in-Open.is (within_more _ _ (omega arith) (within_then _ _ c.put_small-i.ensures
     (within_then _ _ c.put_opened-j.ensures (within_then _ _ c.put_any-k.ensures c.put_focus.ensures))))

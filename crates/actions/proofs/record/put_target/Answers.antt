@@ -1,7 +1,6 @@
 -- `record::put_target` meets its contract.
 -- Assumes nothing.
-use native.Mathlib.Omega.{arith}
-use Rattle.actions.specs.Within.{within_then, within_more}
+use Rattle.actions.specs.Within.{within_then}
 use Rattle.actions.proofs.record.put_target.Goals as goal
 
 pub returns-in-Single : goal.returns-in-Single
@@ -9,6 +8,3 @@ returns-in-Single c = rw c.in-Single.is (within_then 1 14 c.put_small-i.ensures 
 
 pub returns-in-AllBut : goal.returns-in-AllBut
 returns-in-AllBut c = rw c.in-AllBut.is (within_then 1 14 c.put_small-i-in-AllBut.ensures c.put_focus-in-AllBut.ensures)
-
-pub returns-in-All : goal.returns-in-All
-returns-in-All c = rw c.in-All.is (within_more 1 15 (omega arith) c.put_small.ensures)

@@ -1,20 +1,19 @@
 -- `run::long_run_end` meets its contract.
 -- Assumes nothing.
-use Rattle.scan.specs.Bytes.{is_kind}
+use Rattle.std.proofs.Common.{rules, sym, ◌∙◌}
+use Rattle.scan.specs.RunLaws.{run_at_on, run_at_off, run_at_end, run_reached, run_wider}
 use Rattle.blocks.proofs.run.long_run_end.Goals as goal
 
-pub returns-in-Space : goal.returns-in-Space
-unfolding is_kind
-returns-in-Space c = rw c.in-Space.is c.spaces_end.ensures
+pub returns-then-not-has : goal.returns-then-not-has
+returns-then-not-has g c = sym (c.loop-i.invariant ∙ run_at_off _ _ _ (search rules) (sym c.has.ensures ∙ c.if-not-has.true))
 
-pub returns-in-Word : goal.returns-in-Word
-unfolding is_kind
-returns-in-Word c = rw c.in-Word.is c.letters_end.ensures
+pub returns-then-i-at-eq-FIRST : goal.returns-then-i-at-eq-FIRST
+returns-then-i-at-eq-FIRST g c =
+    c.run_end.ensures ∙ sym (c.loop-i.invariant ∙ run_wider _ _ _ _ _ g.met.C.Long.wider c.blocks_end.ensures.run)
 
-pub returns-in-Plain : goal.returns-in-Plain
-unfolding is_kind
-returns-in-Plain c = rw c.in-Plain.is c.plain_end.ensures
+pub loop-i-preserved : goal.loop-i-preserved
+loop-i-preserved g c = c.loop-i.invariant ∙ run_at_on _ _ _ (search rules) (sym c.has.ensures ∙ c.if-not-has.false)
 
-pub returns-in-Quoted : goal.returns-in-Quoted
-unfolding is_kind
-returns-in-Quoted c = rw c.in-Quoted.is c.quoted_end.ensures
+pub returns : goal.returns
+returns g c =
+    c.max.ensures ∙ sym (run_reached _ _ _ _ _ c.loop-i.auto.i-end c.loop-i-test.false c.loop-i.invariant ∙ run_at_end _ _ _ (search rules))

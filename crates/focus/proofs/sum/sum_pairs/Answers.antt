@@ -25,14 +25,6 @@ pub returns-then-not-is_sign : goal.returns-then-not-is_sign
 unfolding sum_of
 returns-then-not-is_sign c = refl
 
-pub loop-i-init : goal.loop-i-init
-loop-i-init c = (
-  omega arith,
-  c.byte_at-b.ensures,
-  sym (ap is_sign c.byte_at-b.ensures) ∙ sym c.is_sign.ensures ∙ c.if-not-is_sign.false,
-  refl,
-)
-
 pub returns-then-not-is_digit : goal.returns-then-not-is_digit
 unfolding sum_of
 returns-then-not-is_digit c = search rules
@@ -44,10 +36,6 @@ returns-then-not-is_sign-2 c = search rules
 -- a digit stands at i + 1, and a sign behind it
 pub overflow_sub-c : goal.overflow_sub-c
 overflow_sub-c c = let digit : is_digit (get_or c.args.s.now (c.loop-i.i + 1) 0) ≡ true = sym c.is_digit.ensures ∙ c.if-not-is_digit.false in
-    omega (arith, digital _ (digit))
-
-pub overflow_cast-c : goal.overflow_cast-c
-overflow_cast-c c = let digit : is_digit (get_or c.args.s.now (c.loop-i.i + 1) 0) ≡ true = sym c.is_digit.ensures ∙ c.if-not-is_digit.false in
     omega (arith, digital _ (digit))
 
 pub returns-in_default : goal.returns-in_default

@@ -3,14 +3,11 @@
 use mathlib.Core.Path.{◌∙◌, sym}
 use native.Mathlib.Omega.{arith}
 use borrow.Author.Tests.{eq-eqb, ne_eqb}
-use mathlib.Core.Bool.{true, false}
+use mathlib.Core.Bool.{true}
 use Rattle.scan.specs.RunLaws.{byte_inside}
 use Rattle.lists.specs.Lists.{item_at}
 use Rattle.lists.specs.ListLaws.{room}
 use Rattle.lists.proofs.list.item_end.Goals as goal
-
-pub overflow_add-q : goal.overflow_add-q
-overflow_add-q c = omega (arith, byte_inside c.args.s.now c.args.at 0x22 (sym c.byte_at.ensures ∙ c.if-byte_at-eq34.true) (omega arith))
 
 pub item_of-requires : goal.item_of-requires
 item_of-requires c = let h = byte_inside c.args.s.now c.args.at 0x22 (sym c.byte_at.ensures ∙ c.if-byte_at-eq34.true) (omega arith) in
@@ -24,9 +21,6 @@ returns-then-byte_at-eq34 c = rw (
   ← c.byte_at.ensures,
   eq-eqb _ _ c.if-byte_at-eq34.true,
 )
-
-pub item_of-requires-2 : goal.item_of-requires-2
-item_of-requires-2 c = room false c.args.s.now _ _ (sym c.text_end-2.ensures) (omega arith)
 
 pub returns : goal.returns
 unfolding item_at

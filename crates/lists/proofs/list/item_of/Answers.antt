@@ -4,9 +4,6 @@ use borrow.Author.Tests.{eq-eqb, ne_eqb}
 use Rattle.lists.specs.Lists.{item_of}
 use Rattle.lists.proofs.list.item_of.Goals as goal
 
-pub overflow_add-result : goal.overflow_add-result
-overflow_add-result c = record { fits = rw c.in-End.is at c.requires }
-
 pub returns-then-j-i : goal.returns-then-j-i
 unfolding item_of
 returns-then-j-i c = rw (c.in-End.is, eq-eqb _ _ c.if-j-i.true)

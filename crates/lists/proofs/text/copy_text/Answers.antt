@@ -3,28 +3,16 @@
 use mathlib.Core.Path.{◌∙◌, sym}
 use native.Mathlib.Omega.{arith}
 use Rattle.scan.specs.RunLaws.{run_at_le, byte_inside}
-use Rattle.store.specs.Splice.{writing_start, writing_left, writing_room, writing_put, writing_then, writing_end}
+use Rattle.store.specs.Splice.{writing_room, writing_put, writing_then, writing_end}
 use Rattle.lists.specs.Text.{own}
 use Rattle.lists.specs.TextLaws.{bytes_run_to, bytes_run_end, bytes_stuck}
 use Rattle.lists.proofs.text.copy_text.Goals as goal
 
-pub loop-e-init : goal.loop-e-init
-loop-e-init c = writing_start _ _ _
-
-pub put_escapes-e-requires : goal.put_escapes-e-requires
-put_escapes-e-requires c = writing_left c.requires.room c.loop-e.invariant
-
 pub put_bytes-m-requires : goal.put_bytes-m-requires
-put_bytes-m-requires c = rw c.part.ensures (writing_room _ _ c.requires.room (bytes_run_to _ _ _ _ c.own_end-j.ensures) (writing_then c.put_escapes-e.ensures.writes c.loop-e.invariant))
-
-pub shape_of-store-then-byte_at-ne92 : goal.shape_of-store-then-byte_at-ne92
-shape_of-store-then-byte_at-ne92 c = (writing_put _ (rw c.part.ensures at c.put_bytes-m.ensures) (bytes_run_to _ _ _ _ c.own_end-j.ensures) (writing_then c.put_escapes-e.ensures.writes c.loop-e.invariant)).size
+put_bytes-m-requires c = rw c.part.ensures (writing_room _ _ c.requires (bytes_run_to _ _ _ _ c.own_end-j.ensures) (writing_then c.put_escapes-e.ensures.writes c.loop-e.invariant))
 
 pub returns-then-byte_at-ne92 : goal.returns-then-byte_at-ne92
 returns-then-byte_at-ne92 c = writing_end (bytes_run_end _ _ _ _ c.own_end-j.ensures (λ e. c.if-byte_at-ne92.true (c.byte_at.ensures ∙ e))) (writing_put _ (rw c.part.ensures at c.put_bytes-m.ensures) (bytes_run_to _ _ _ _ c.own_end-j.ensures) (writing_then c.put_escapes-e.ensures.writes c.loop-e.invariant))
-
-pub shape_of-store-then-j-e : goal.shape_of-store-then-j-e
-shape_of-store-then-j-e c = (writing_put _ (rw c.part.ensures at c.put_bytes-m.ensures) (bytes_run_to _ _ _ _ c.own_end-j.ensures) (writing_then c.put_escapes-e.ensures.writes c.loop-e.invariant)).size
 
 pub returns-then-j-e : goal.returns-then-j-e
 returns-then-j-e c = let b = sym c.byte_at.ensures ∙ c.if-byte_at-ne92.false in

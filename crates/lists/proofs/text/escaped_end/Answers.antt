@@ -1,27 +1,16 @@
 -- `text::escaped_end` meets its contract. The invariant: at i stands a backslash, and the text from i on ends where the text from the start does.
 -- Assumes nothing.
-use mathlib.Core.Path.{refl, ◌∙◌, sym, ap}
+use mathlib.Core.Path.{◌∙◌, sym, ap}
 use native.Mathlib.Omega.{arith}
-use Rattle.scan.specs.RunLaws.{run_at_le, byte_inside}
+use Rattle.scan.specs.RunLaws.{run_at_le}
 use Rattle.lists.specs.Text.{escape_of, own, text_end_at}
 use Rattle.lists.specs.TextLaws.{end_run, end_told_lem, end_escape, end_bad, escape_inside}
 use Rattle.lists.proofs.text.escaped_end.Goals as goal
-
-pub loop-e-init : goal.loop-e-init
-loop-e-init c = (c.requires.at_value, refl)
-
-pub overflow_add-i : goal.overflow_add-i
-overflow_add-i c = omega (arith, byte_inside c.args.s.now c.loop-e.i 0x5C c.loop-e.invariant.0 (omega arith))
 
 pub returns-in_default : goal.returns-in_default
 returns-in_default c = let b = c.byte_at.ensures in
     let e = sym (c.escape_of.ensures ∙ ap (escape_of c.args.quoted) b) ∙ c.in_default.is in
     sym (c.loop-e.invariant.1 ∙ end_bad c.args.quoted c.args.s.now c.loop-e.i c.loop-e.invariant.0 e)
-
-pub overflow_add-i-in-loop-e : goal.overflow_add-i-in-loop-e
-overflow_add-i-in-loop-e c = omega (arith, escape_inside _ c.args.s.now _ _ (sym (c.escape_of.ensures ∙ ap (escape_of _) c.byte_at.ensures) ∙ c.in-Byte.is))
-
--- behind the escapes the text ends where it did
 
 pub returns-then-b-ne92 : goal.returns-then-b-ne92
 returns-then-b-ne92 c = c.stop_at.ensures ∙ end_told_lem _ _ _ _ _ c.own_end-j.ensures c.byte_at-b.ensures c.if-b-ne92.true

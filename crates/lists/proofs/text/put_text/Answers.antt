@@ -39,14 +39,14 @@ overflow_sub-j c = omega (arith, c.own_end-j.ensures, run_at_le (own c.args.quot
 pub put_number-i-requires : goal.put_number-i-requires
 unfolding named
 put_number-i-requires c =
-    rw (sized _ _ _ _ c.own_end-j.ensures (λ n. c.if-byte_at-ne92.true (c.byte_at.ensures ∙ n))) (room_first _ _ c.requires.room)
+    rw (sized _ _ _ _ c.own_end-j.ensures (λ n. c.if-byte_at-ne92.true (c.byte_at.ensures ∙ n))) (room_first _ _ c.requires)
 
 pub put_bytes-requires : goal.put_bytes-requires
 unfolding named
 put_bytes-requires c =
     let n = λ (h : byte_at c.args.s.now c.own_end-j.result ≡ 0x5C). c.if-byte_at-ne92.true (c.byte_at.ensures ∙ h) in
     rw (c.part.ensures, ← whole _ _ _ _ c.own_end-j.ensures n)
-    (room_next (rw (sized _ _ _ _ c.own_end-j.ensures n) at c.put_number-i.ensures) c.requires.room)
+    (room_next (rw (sized _ _ _ _ c.own_end-j.ensures n) at c.put_number-i.ensures) c.requires)
 
 pub returns-then-byte_at-ne92 : goal.returns-then-byte_at-ne92
 unfolding named
@@ -66,18 +66,15 @@ overflow_add-j c = let a = c.args in
 
 pub put_number-i-requires-2 : goal.put_number-i-requires-2
 unfolding named
-put_number-i-requires-2 c = rw (counted _ _ c.args.at _ _ c.own_end-j.ensures c.text_size-n.ensures) (room_first _ _ c.requires.room)
+put_number-i-requires-2 c = rw (counted _ _ c.args.at _ _ c.own_end-j.ensures c.text_size-n.ensures) (room_first _ _ c.requires)
 
 pub put_bytes-k-requires : goal.put_bytes-k-requires
 put_bytes-k-requires c = rw c.part-2.ensures
-    (room_first _ _ (room _ _ _ _ _ _ _ _ _ c.own_end-j.ensures c.text_size-n.ensures c.requires.room c.put_number-i-2.ensures))
+    (room_first _ _ (room _ _ _ _ _ _ _ _ _ c.own_end-j.ensures c.text_size-n.ensures c.requires c.put_number-i-2.ensures))
 
 pub copy_text-requires : goal.copy_text-requires
-copy_text-requires c = record {
-  classes = c.requires.classes;
-  room = room_next (rw c.part-2.ensures at c.put_bytes-k.ensures)
-      (room _ _ _ _ _ _ _ _ _ c.own_end-j.ensures c.text_size-n.ensures c.requires.room c.put_number-i-2.ensures);
-}
+copy_text-requires c = (room_next (rw c.part-2.ensures at c.put_bytes-k.ensures)
+    (room _ _ _ _ _ _ _ _ _ c.own_end-j.ensures c.text_size-n.ensures c.requires c.put_number-i-2.ensures))
 
 pub returns : goal.returns
 unfolding named

@@ -4,11 +4,5 @@ use Rattle.texts.specs.BehindLaws.{behind_then, behind_none}
 use borrow.Author.Rules.{rules}
 use Rattle.phrases.proofs.step.flags.Goals as goal
 
-pub returns-in-1 : goal.returns-in-1
-returns-in-1 c = search (rules, behind_then, behind_none)
-
-pub returns-in-2 : goal.returns-in-2
-returns-in-2 c = search (rules, behind_then, behind_none)
-
 pub returns-in-3 : goal.returns-in-3
 returns-in-3 c = search (rules, behind_then, behind_none)

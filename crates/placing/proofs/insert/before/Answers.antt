@@ -1,11 +1,8 @@
 -- `insert::before` meets its contract. The invariant: the word at q and w are alike from k on.
 -- Assumes nothing.
 use native.Mathlib.Omega.{arith}
-use Rattle.placing.specs.ChangeLaws.{before_start, before_told, before_on, before_not}
+use Rattle.placing.specs.ChangeLaws.{before_told, before_on}
 use Rattle.placing.proofs.insert.before.Goals as goal
-
-pub loop-k-init : goal.loop-k-init
-loop-k-init c = let a = c.args in (omega arith, before_start a.b.now a.q a.w.now c.requires)
 
 pub returns-then-x-y : goal.returns-then-x-y
 returns-then-x-y c = let a = c.args in
@@ -17,8 +14,3 @@ pub loop-k-preserved : goal.loop-k-preserved
 loop-k-preserved c = let a = c.args in
     let l = c.loop-k in
     (omega arith, before_on a.b.now a.q a.w.now c.requires l.k c.loop-k-test.true l.invariant.0 l.invariant.1 c.if-x-y.false)
-
-pub returns : goal.returns
-returns c = let a = c.args in
-    let l = c.loop-k in
-    before_not a.b.now a.q a.w.now c.requires l.k (omega arith) l.invariant.1

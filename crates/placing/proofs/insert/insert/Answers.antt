@@ -8,6 +8,3 @@ pub returns-then-not-good : goal.returns-then-not-good
 returns-then-not-good c = let a = c.args in
     let r = untaken_refused a.at a.most a.w.now a.command a.b.now (sym c.good.ensures ∙ c.if-not-good.true) in
     record { answer = r.0; bytes = r.1 }
-
-pub put-requires : goal.put-requires
-put-requires c = record { most_bound = c.requires.most_bound; most_bound_2 = c.requires.most_bound_2; b_value = sym c.good.ensures ∙ c.if-not-good.false }

@@ -5,18 +5,10 @@ use mathlib.Core.List.{◌∷◌, []}
 use Prim.Native.Nat.{ℕ, ◌+◌, ◌-◌}
 use native.Mathlib.Omega.{arith}
 use Rattle.limits.specs.Limits.{word_limit}
-use Rattle.store.specs.Splice.{writing_start, writing_byte, writing_end}
+use Rattle.store.specs.Splice.{writing_byte, writing_end}
 use Rattle.tables.specs.Table.{counts_from}
 use Rattle.placing.specs.InsertLaws.{counts_step, counts_end}
 use Rattle.placing.proofs.insert.put_counts.Goals as goal
-
-pub loop-k-init : goal.loop-k-init
-loop-k-init c = let a = c.args in
-    let e : a.at + 0 ≡ a.at = omega arith in
-    (rw e (writing_start a.b.now a.at (counts_from word_limit 1 (a.m ∷ []))), omega arith)
-
-pub bounds-b-at : goal.bounds-b-at
-bounds-b-at c = omega (arith, c.loop-k.invariant.0.size)
 
 pub loop-k-preserved : goal.loop-k-preserved
 loop-k-preserved c = let a = c.args in
@@ -26,9 +18,6 @@ loop-k-preserved c = let a = c.args in
     let rest = counts_from (word_limit - (l.k + 1)) (l.k + 1 + 1) ls in
     let e = counts_step word_limit l.k ls c.loop-k-test.true ∙ ap (λ (x : ℕ). x ∷ rest) (sym c.count_of_one.ensures) in
     (rw n (writing_byte c.count_of_one.result rest e l.invariant.0), omega arith)
-
-pub shape_of-b : goal.shape_of-b
-shape_of-b c = c.loop-k.invariant.0.size
 
 pub returns : goal.returns
 returns c = let a = c.args in

@@ -5,20 +5,12 @@ use native.Mathlib.Omega.{arith}
 use lib.ListN.{length, set, length-set}
 use Rattle.scan.specs.Scan.{byte_at}
 use Rattle.tables.specs.FrameLaws.{framed_told, lengths_sum}
-use Rattle.placing.specs.InsertLaws.{count_most, made_length, new_length, new_made}
+use Rattle.placing.specs.InsertLaws.{count_most, made_length, new_made}
 use Rattle.placing.proofs.insert.put_new.Goals as goal
-
-pub bounds-b-at : goal.bounds-b-at
-bounds-b-at c = let a = c.args in
-    omega (arith, (framed_told a.at a.most a.b.now c.requires.framed).size)
 
 pub bounds-b-at-2 : goal.bounds-b-at-2
 bounds-b-at-2 c = let a = c.args in
     omega (arith, (framed_told a.at a.most a.b.now c.requires.framed).size, c.requires.short)
-
-pub bounds-b-at-3 : goal.bounds-b-at-3
-bounds-b-at-3 c = let a = c.args in
-    omega (arith, (framed_told a.at a.most a.b.now c.requires.framed).size)
 
 pub overflow_add-b-2 : goal.overflow_add-b-2
 overflow_add-b-2 c = let a = c.args in
@@ -42,11 +34,6 @@ put_in-requires c = let a = c.args in
     let f = framed_told a.at a.most a.b.now p.framed in
     let e = c.end_of-end.ensures in
     let l = made_length a.at a.most a.row a.place a.w.now a.command a.b.now c.put_one.new.b c.put_one.ensures in record { from_le_to = omega (arith, e, p.greatest); w_in_bounds = omega (arith, e, p.short, p.room, f.size, lengths_sum a.at a.most a.b.now f p.some, l) }
-
-pub shape_of-b : goal.shape_of-b
-shape_of-b c = let a = c.args in
-    new_length a.at a.most a.row a.place a.w.now a.command a.b.now c.put_one.new.b c.put_one.ensures
-    c.end_of-end.result c.end_of-end.ensures c.put_in.new.b c.put_in.ensures
 
 pub returns : goal.returns
 returns c = let a = c.args in

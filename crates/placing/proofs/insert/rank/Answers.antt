@@ -1,21 +1,11 @@
 -- `insert::rank` meets its contract. The invariant: j words come before w, and the others are left from p on.
 -- Assumes nothing.
-use mathlib.Core.Path.{◌≡◌, sym, ◌∙◌}
-use Prim.Native.Nat.{◌+◌, ◌-◌, ◌≤◌}
+use mathlib.Core.Path.{sym, ◌∙◌}
+use Prim.Native.Nat.{◌+◌, ◌≤◌}
 use native.Mathlib.Omega.{arith}
 use lib.ListN.{length, drop}
 use Rattle.placing.specs.ChangeLaws.{rank_on, rank_stop, rank_none, rows_fit}
 use Rattle.placing.proofs.insert.rank.Goals as goal
-
-pub loop-j-init : goal.loop-j-init
-loop-j-init c = let a = c.args in
-    let e : a.c - 0 ≡ a.c = omega arith in
-    (omega arith, omega arith, rw e (omega arith))
-
-pub before-requires : goal.before-requires
-before-requires c = let a = c.args in
-    let l = c.loop-j in
-    omega (arith, c.requires.w_in_bounds, l.invariant.1, rows_fit l.j a.c (length a.w.now) c.loop-j-test.true)
 
 pub returns-then-not-before : goal.returns-then-not-before
 returns-then-not-before c = let a = c.args in
@@ -24,11 +14,6 @@ returns-then-not-before c = let a = c.args in
     let f : l.p + length a.w.now ≤ length a.b.now = omega (arith, c.requires.w_in_bounds, l.invariant.1, rows_fit l.j a.c (length a.w.now) h) in
     let e = rank_stop a.b.now l.p a.w.now f a.c l.j h (sym c.before-in-loop-j.ensures ∙ c.if-not-before.true) in
     omega (arith, l.invariant.2, e)
-
-pub overflow_add-p : goal.overflow_add-p
-overflow_add-p c = let a = c.args in
-    let l = c.loop-j in
-    omega (arith, c.requires.w_in_bounds, l.invariant.1, rows_fit l.j a.c (length a.w.now) c.loop-j-test.true)
 
 pub loop-j-preserved : goal.loop-j-preserved
 loop-j-preserved c = let a = c.args in

@@ -18,9 +18,6 @@ pub bounds-b-at : goal.bounds-b-at
 bounds-b-at c = let a = c.args in
     omega (arith, (framed_told a.at a.most a.b.now c.requires.framed).size, c.requires.short)
 
-pub overflow_cast-c : goal.overflow_cast-c
-overflow_cast-c c = let a = c.args in omega (arith, c.type_inv.b (a.at + length a.w.now))
-
 pub rank-j-requires : goal.rank-j-requires
 rank-j-requires c = let a = c.args in
     let p = c.requires in

@@ -1,12 +1,9 @@
 -- `insert::stands_at` meets its contract. The invariant: the words are the same if they are from k on.
 -- Assumes nothing.
-use mathlib.Core.Path.{refl, sym, ◌∙◌}
+use mathlib.Core.Path.{sym, ◌∙◌}
 use native.Mathlib.Omega.{arith}
 use Rattle.placing.specs.ChangeLaws.{same_on, same_not, same_all}
 use Rattle.placing.proofs.insert.stands_at.Goals as goal
-
-pub loop-k-init : goal.loop-k-init
-loop-k-init c = (omega arith, refl)
 
 pub returns-then-b-q : goal.returns-then-b-q
 returns-then-b-q c = let a = c.args in

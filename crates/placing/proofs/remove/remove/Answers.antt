@@ -2,13 +2,7 @@
 -- Assumes nothing.
 use Rattle.tables.specs.Seat.{Seated, found_nowhere, found_row}
 use Rattle.placing.specs.RemoveLaws.{removed_not, seated_has}
-use borrow.Author.Rules.{rules}
 use Rattle.placing.proofs.remove.remove.Goals as goal
-
-pub enum_known-row : goal.enum_known-row
-enum_known-row c = search rules
-
--- the word's row
 
 pub take_word-requires : goal.take_word-requires
 take_word-requires c = let row_here : let a = c.args in Seated a.at a.most a.b.now a.w.now c.in-Row.row c.in-Row.place = found_row _ _ _ _ _ c.seat_of.ensures _ _ c.in-Row.is in

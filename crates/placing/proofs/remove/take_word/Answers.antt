@@ -10,24 +10,11 @@ use Rattle.tables.specs.Seat.{seated_row, seated_end, seated_size, seated_few, s
 use Rattle.placing.specs.RemoveLaws.{seated_only, seated_one}
 use Rattle.placing.proofs.remove.take_word.Goals as goal
 
-pub bounds-b-at : goal.bounds-b-at
-bounds-b-at c = omega (arith, seated_size c.requires.seated)
-
-pub overflow_cast-n : goal.overflow_cast-n
-overflow_cast-n c = omega (arith, c.type_inv.b c.args.at)
-
-pub bounds-b-at-then-n-eq1 : goal.bounds-b-at-then-n-eq1
-bounds-b-at-then-n-eq1 c = omega (arith, seated_size c.requires.seated)
-
 pub returns-then-n-eq1 : goal.returns-then-n-eq1
 returns-then-n-eq1 c = seated_only c.requires.seated c.if-n-eq1.true
 
 pub overflow_add-o-3 : goal.overflow_add-o-3
 overflow_add-o-3 c = omega (arith, seated_few c.requires.seated)
-
-pub overflow_add-o-4 : goal.overflow_add-o-4
-overflow_add-o-4 c = let a = c.args in
-    omega (arith, (framed_told a.at a.most a.b.now c.requires.seated.frame).few)
 
 pub take_out-requires : goal.take_out-requires
 take_out-requires c = let a = c.args in

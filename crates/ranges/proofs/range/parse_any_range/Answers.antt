@@ -1,22 +1,14 @@
 -- `range::parse_any_range` meets its contract: each return rewrites with what was read and the tests that led there.
 -- Assumes nothing.
 use mathlib.Core.Path.{sym, ◌∙◌}
-use native.Mathlib.Omega.{arith}
 use borrow.Author.Tests.{eq-eqb, ne_eqb}
 use Rattle.ranges.specs.Range.{range_at, after_first}
-use Rattle.ranges.specs.PartedLaws.{parted_inside, parted, unparted}
+use Rattle.ranges.specs.PartedLaws.{parted, unparted}
 use Rattle.ranges.proofs.range.parse_any_range.Goals as goal
 
 pub returns-in_default : goal.returns-in_default
 unfolding range_at after_first
 returns-in_default c = rw (sym c.parse_range_ending.ensures ∙ c.in_default.is)
-
-pub overflow_add-to : goal.overflow_add-to
-overflow_add-to c = omega (
-  arith,
-  parted_inside c.args.s.now _ _ (sym c.byte_at-b.ensures)
-      (sym c.parts.ensures ∙ c.if-parts.true),
-)
 
 pub returns-then-parts : goal.returns-then-parts
 unfolding range_at after_first

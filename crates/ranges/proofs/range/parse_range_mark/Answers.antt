@@ -1,14 +1,13 @@
 -- `range::parse_range_mark` meets its contract.
 -- Assumes nothing.
 use mathlib.Core.Path.{sym, ◌∙◌}
-use Rattle.scan.specs.Bytes.{is_kind}
 use Rattle.ranges.specs.Range.{mark_atom}
 use Rattle.ranges.proofs.range.parse_range_mark.Goals as goal
 
-pub returns-then-is_kind : goal.returns-then-is_kind
-unfolding mark_atom is_kind
-returns-then-is_kind c = simp (sym c.is_kind.ensures ∙ c.if-is_kind.true)
+pub returns-then-has : goal.returns-then-has
+unfolding mark_atom
+returns-then-has c = simp (sym c.has.ensures ∙ c.if-has.true)
 
-pub returns-else-is_kind : goal.returns-else-is_kind
-unfolding mark_atom is_kind
-returns-else-is_kind c = simp (sym c.is_kind.ensures ∙ c.if-is_kind.false)
+pub returns-else-has : goal.returns-else-has
+unfolding mark_atom
+returns-else-has c = simp (sym c.has.ensures ∙ c.if-has.false)

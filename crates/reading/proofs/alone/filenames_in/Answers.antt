@@ -4,11 +4,10 @@ use native.Mathlib.Omega.{arith}
 use Rattle.reading.specs.Alone.{filenames_told, filename_seen, filename_bytes}
 use Rattle.reading.specs.Checks.{said_refused, said_beyond, said_item, filename_short}
 use Rattle.reading.specs.AloneLaws.{item_room, list_bad, list_pick}
-use borrow.Author.Rules.{rules}
 use Rattle.reading.proofs.alone.filenames_in.Goals as goal
 
 pub filename-requires : goal.filename-requires
-filename-requires c = record { classes = search rules; room = item_room c.args.text.now c.args.store.now c.in-Item.x.start c.requires }
+filename-requires c = (item_room c.args.text.now c.args.store.now c.in-Item.x.start c.requires)
 
 pub returns-in-Bad : goal.returns-in-Bad
 unfolding filenames_told

@@ -8,7 +8,6 @@ use Rattle.reading.specs.Told.{option_told}
 use Rattle.reading.specs.ToldLaws.{option_told_lem}
 use Rattle.reading.specs.Checks.{options_keyless, options_pick, said_refused, said_beyond, said_item, option_short}
 use Rattle.reading.specs.AloneLaws.{item_room, options_bad}
-use borrow.Author.Rules.{rules}
 use Rattle.reading.proofs.alone.options_in.Goals as goal
 
 pub returns-then-seen : goal.returns-then-seen
@@ -17,7 +16,7 @@ returns-then-seen c = let both = said_refused option_counts option_bytes _ _ 5 (
     record { answer = both.0; written = both.1 }
 
 pub copy_option-requires : goal.copy_option-requires
-copy_option-requires c = record { classes = search rules; room = item_room c.args.text.now c.args.store.now c.in-Item.x.start c.requires }
+copy_option-requires c = (item_room c.args.text.now c.args.store.now c.in-Item.x.start c.requires)
 
 pub returns-in-Bad : goal.returns-in-Bad
 unfolding options_told

@@ -6,11 +6,10 @@ use Rattle.lists.specs.ListLaws.{text_length}
 use Rattle.reading.specs.Alone.{strings_told}
 use Rattle.reading.specs.Checks.{said_refused, said_beyond, said_item}
 use Rattle.reading.specs.AloneLaws.{item_room, list_bad, list_pick}
-use borrow.Author.Rules.{rules}
 use Rattle.reading.proofs.alone.strings_in.Goals as goal
 
 pub copy_item-requires : goal.copy_item-requires
-copy_item-requires c = record { classes = search rules; room = item_room c.args.text.now c.args.store.now c.in-Item.x.start c.requires }
+copy_item-requires c = (item_room c.args.text.now c.args.store.now c.in-Item.x.start c.requires)
 
 pub returns-in-Bad : goal.returns-in-Bad
 unfolding strings_told

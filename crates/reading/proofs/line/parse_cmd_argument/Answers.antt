@@ -1,12 +1,11 @@
 -- `line::parse_cmd_argument` meets its contract.
 -- Assumes nothing.
 use borrow.Author.Tests.{eq-eqb, ne_eqb}
-use Rattle.scan.specs.Bytes.{is_kind}
 use Rattle.reading.specs.Line.{rest_at}
 use Rattle.reading.proofs.line.parse_cmd_argument.Goals as goal
 
 pub returns-then-skip_byte-s : goal.returns-then-skip_byte-s
-unfolding rest_at is_kind
+unfolding rest_at
 returns-then-skip_byte-s c = rw (
   c.range_again.ensures,
   ← c.skip_byte-b.ensures,
@@ -17,7 +16,7 @@ returns-then-skip_byte-s c = rw (
 )
 
 pub returns : goal.returns
-unfolding rest_at is_kind
+unfolding rest_at
 returns c = rw (
   ← c.skip_byte-b.ensures,
   ← c.skip_spaces-a.ensures,

@@ -1,18 +1,8 @@
 -- `line::parse_cmd_name` meets its contract.
 -- Assumes nothing.
-use mathlib.Core.Path.{sym, ◌∙◌}
-use native.Mathlib.Omega.{arith}
 use borrow.Author.Tests.{eq-eqb, ne_eqb, le-leb, lt-leb}
 use Rattle.reading.specs.Line.{word_at}
-use Rattle.scan.specs.RunLaws.{byte_inside}
-use borrow.Author.Rules.{rules}
 use Rattle.reading.proofs.line.parse_cmd_name.Goals as goal
-
-pub overflow_add-result : goal.overflow_add-result
-overflow_add-result c = omega (arith, byte_inside c.args.s.now _ _ (sym c.byte_at-b.ensures ∙ c.if-b-eq33.true) (search rules))
-
-pub overflow_add-result-then-b-eq33 : goal.overflow_add-result-then-b-eq33
-overflow_add-result-then-b-eq33 c = omega (arith, byte_inside c.args.s.now _ _ (sym c.byte_at-b.ensures ∙ c.if-b-eq33.true) (search rules))
 
 pub returns-then-b-eq33 : goal.returns-then-b-eq33
 unfolding word_at

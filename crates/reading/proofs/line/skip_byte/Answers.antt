@@ -1,14 +1,8 @@
 -- `line::skip_byte` meets its contract.
 -- Assumes nothing.
-use mathlib.Core.Path.{sym, ◌∙◌}
-use native.Mathlib.Omega.{arith}
 use borrow.Author.Tests.{eq-eqb, ne_eqb}
 use Rattle.reading.specs.Line.{skip_byte}
-use Rattle.scan.specs.RunLaws.{byte_inside}
 use Rattle.reading.proofs.line.skip_byte.Goals as goal
-
-pub overflow_add-result : goal.overflow_add-result
-overflow_add-result c = omega (arith, byte_inside c.args.s.now _ _ (sym c.byte_at.ensures ∙ c.if-byte_at-b.true) c.requires)
 
 pub returns-then-byte_at-b : goal.returns-then-byte_at-b
 unfolding skip_byte

@@ -14,10 +14,7 @@ use Rattle.run.specs.ReplyLaws.{end_answer, end_store}
 use Rattle.run.proofs.reply.end_done.Goals as goal
 
 pub put_action-count-requires : goal.put_action-count-requires
-put_action-count-requires c = record {
-  classes = c.requires.classes;
-  s_in_bounds = rw c.part.ensures (omega (arith, c.requires.spare_in_bounds, part_short c.args.line.now c.args.a c.args.e));
-}
+put_action-count-requires c = (rw c.part.ensures (omega (arith, c.requires, part_short c.args.line.now c.args.a c.args.e)))
 
 pub returns-in-Act : goal.returns-in-Act
 unfolding done_at out_no out_bytes record_of
@@ -25,7 +22,7 @@ returns-in-Act c = let o = Out.act (paper_of (part_of c.args.line.now c.args.a c
     let n = part_short c.args.line.now c.args.a c.args.e in
     let w = rw c.part.ensures at c.put_action-count.ensures in
     rw c.in-Act.is
-    (record { answer = end_answer o _ w.put; store = end_store o w.put (omega (arith, w.most, c.requires.spare_in_bounds, n)); size = put_length w.put })
+    (record { answer = end_answer o _ w.put; store = end_store o w.put (omega (arith, w.most, c.requires, n)); size = put_length w.put })
 
 pub returns-in-Refused : goal.returns-in-Refused
 unfolding done_at store_after at_front out_bytes

@@ -6,4 +6,4 @@ use Rattle.run.proofs.reply.end_refused.Goals as goal
 
 pub returns : goal.returns
 unfolding reply out_no out_bytes
-returns c = rw c.number.ensures
+returns c = rw c.from.ensures

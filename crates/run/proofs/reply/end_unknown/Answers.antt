@@ -19,4 +19,4 @@ returns c = let line = c.args.line.now in
     let v = part_of line c.args.a c.args.e in
     let h = rw c.part.ensures at c.put_name-count.ensures in
     let f = named_room {s = c.args.store.now} {at = 0} v (length line) (part_short line c.args.a c.args.e) (omega arith) (omega (arith, c.requires)) in
-    rw c.number.ensures (record { answer = end_answer (Out.unknown v) _ h; store = end_store (Out.unknown v) h (omega (arith, h.place, f.fits)); size = put_length h })
+    rw c.from.ensures (record { answer = end_answer (Out.unknown v) _ h; store = end_store (Out.unknown v) h (omega (arith, h.place, f.fits)); size = put_length h })

@@ -25,10 +25,10 @@ pub overflow_add-m : goal.overflow_add-m
 overflow_add-m c = omega (arith, c.loop-store.invariant.1)
 
 pub decide-requires : goal.decide-requires
-decide-requires c = record { stop_value = rw c.part-s.ensures c.loop-store.invariant.1.flat; classes = c.requires.classes }
+decide-requires c = rw c.part-s.ensures c.loop-store.invariant.1.flat
 
 pub end_nothing-requires : goal.end_nothing-requires
-end_nothing-requires c = rw c.loop-store.invariant.0 (omega (arith, c.requires.spare_in_bounds))
+end_nothing-requires c = rw c.loop-store.invariant.0 (omega (arith, c.requires))
 
 pub shape_of-store-in-Empty : goal.shape_of-store-in-Empty
 shape_of-store-in-Empty c = c.end_nothing.ensures.size ∙ ap length c.loop-store.invariant.0
@@ -61,7 +61,7 @@ overflow_add-from-in-Unknown c =
     omega (arith, c.loop-store.invariant.1)
 
 pub end_unknown-requires : goal.end_unknown-requires
-end_unknown-requires c = rw c.loop-store.invariant.0 c.requires.spare_in_bounds
+end_unknown-requires c = rw c.loop-store.invariant.0 c.requires
 
 pub shape_of-store-in-Unknown : goal.shape_of-store-in-Unknown
 shape_of-store-in-Unknown c = c.end_unknown.ensures.size ∙ ap length c.loop-store.invariant.0
@@ -85,11 +85,8 @@ overflow_add-e c =
     let inside : In c.in-Runs.d.argument (c.loop-store.to - c.loop-store.from) c.in-Runs.d.stop = held_next _ _ _ _ _ _ _ c.loop-store.invariant.1 _ (sym (c.decide.ensures ∙ ap (decide_of _) c.part-s.ensures) ∙ c.in-Runs.is) in
     omega (arith, c.loop-store.invariant.1)
 
-pub handle-y-requires : goal.handle-y-requires
-handle-y-requires c = c.requires.classes
-
 pub end_done-requires : goal.end_done-requires
-end_done-requires c = record { classes = c.requires.classes; spare_in_bounds = rw c.loop-store.invariant.0 c.requires.spare_in_bounds }
+end_done-requires c = (rw c.loop-store.invariant.0 c.requires)
 
 pub shape_of-store-in-Runs : goal.shape_of-store-in-Runs
 shape_of-store-in-Runs c = c.end_done.ensures.size ∙ ap length c.loop-store.invariant.0

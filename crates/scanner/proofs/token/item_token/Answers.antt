@@ -5,10 +5,6 @@ use borrow.Author.Tests.{eq-eqb, ne_eqb}
 use Rattle.scanner.specs.Tokens.{item_token}
 use Rattle.scanner.proofs.token.item_token.Goals as goal
 
-pub returns-in_default : goal.returns-in_default
-unfolding item_token
-returns-in_default c = rw (c.unlisted_token.ensures, c.in_default.is)
-
 pub returns-then-not-parted : goal.returns-then-not-parted
 unfolding item_token
 returns-then-not-parted c = rw (c.unlisted_token-then-not-parted.ensures, c.in-End.is, sym c.parted.ensures ∙ c.if-not-parted.true)

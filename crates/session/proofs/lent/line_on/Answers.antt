@@ -14,7 +14,7 @@ pub run_in-requires : goal.run_in-requires
 run_in-requires c = let a = c.args in
     let line = a.line.now in
     let passed = check_for_passed (line_room line) line (length a.store.now) (sym c.check_line.ensures ∙ c.in-Good.is) in
-    record { classes = c.requires.classes; b_len = (sound_told a.b.now c.requires.b_value).size; line_len_bound = passed.0; line_in_bounds = passed.1 }
+    record { b_len = (sound_told a.b.now c.requires).size; line_len_bound = passed.0; line_in_bounds = passed.1 }
 
 pub returns-in-Good : goal.returns-in-Good
 returns-in-Good c = let a = c.args in

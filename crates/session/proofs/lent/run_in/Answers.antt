@@ -10,7 +10,7 @@ use Rattle.run.specs.Reply.{reply}
 use Rattle.session.proofs.lent.run_in.Goals as goal
 
 pub run-reply-requires : goal.run-reply-requires
-run-reply-requires c = record { classes = c.requires.classes; spare_in_bounds = omega (arith, line_room_long c.args.line.now, c.requires.line_in_bounds) }
+run-reply-requires c = (omega (arith, line_room_long c.args.line.now, c.requires.line_in_bounds))
 
 pub returns : goal.returns
 returns c = let a = c.args in

@@ -1,14 +1,8 @@
 -- `find::find` meets its contract.
 -- Assumes nothing.
-use Rattle.std.proofs.Common.{◌+◌, arith, rules}
-use Rattle.limits.specs.Limits.{word_limit}
+use Rattle.std.proofs.Common.{arith}
 use Rattle.tables.specs.Seat.{Seated, found_nowhere, found_row, seated_few, seated_size, seated_look}
 use Rattle.tables.proofs.find.find.Goals as goal
-
-pub enum_known-n : goal.enum_known-n
-enum_known-n c = search rules
-
--- the word's row
 
 pub overflow_add-result-in-Row-2 : goal.overflow_add-result-in-Row-2
 overflow_add-result-in-Row-2 c = let row_here : let a = c.args in Seated a.at a.most a.b.now a.w.now c.in-Row.n c.in-Row.p = found_row _ _ _ _ _ c.seat_of.ensures _ _ c.in-Row.is in
@@ -17,9 +11,6 @@ overflow_add-result-in-Row-2 c = let row_here : let a = c.args in Seated a.at a.
 pub bounds-b-at : goal.bounds-b-at
 bounds-b-at c = let row_here : let a = c.args in Seated a.at a.most a.b.now a.w.now c.in-Row.n c.in-Row.p = found_row _ _ _ _ _ c.seat_of.ensures _ _ c.in-Row.is in
     let r = row_here in omega (arith, seated_few r, seated_size r)
-
-pub overflow_cast-result : goal.overflow_cast-result
-overflow_cast-result c = omega (arith, c.type_inv.b (c.args.at + 1 + word_limit + c.in-Row.n))
 
 pub returns-in-Nowhere : goal.returns-in-Nowhere
 returns-in-Nowhere c = found_nowhere _ _ _ _ _ c.seat_of.ensures c.in-Nowhere.is

@@ -15,9 +15,6 @@ loop-k-init c = let w = c.args.w.now in
 pub overflow_mul-x : goal.overflow_mul-x
 overflow_mul-x c = let l = c.loop-k in omega (arith, l.invariant.1.1, pow-le-pow_right {n = 2} (omega arith) {i = 8 * (length c.args.w.now - l.k)} {j = 56} (omega arith))
 
-pub overflow_cast-x : goal.overflow_cast-x
-overflow_cast-x c = omega (arith, c.type_inv.w (c.loop-k.k - 1))
-
 pub overflow_add-x : goal.overflow_add-x
 overflow_add-x c = let l = c.loop-k in
     omega (
@@ -34,8 +31,3 @@ loop-k-preserved c = let l = c.loop-k in
     let x : number_of (drop (l.k - 1) w) ≡ number_of (drop l.k w) * 256 + byte_at w (l.k - 1) =
     number_step w (l.k - 1) (omega arith) ∙ ap (λ (n : ℕ). number_of (drop n w) * 256 + byte_at w (l.k - 1)) k in
     (omega arith, (omega arith, rw e (byte_below (length w - l.k) _ _ l.invariant.1.1 (omega (arith, c.type_inv.w (l.k - 1))))))
-
-pub returns : goal.returns
-returns c = let l = c.loop-k in
-    let z : l.k ≡ 0 = omega arith in
-    l.invariant.1.0 ∙ ap (λ (n : ℕ). number_of (drop n c.args.w.now)) z

@@ -1,6 +1,6 @@
 -- `find::seat_of` meets its contract: a word is looked for among those as long, and no other row has it.
 -- Assumes nothing.
-use Rattle.std.proofs.Common.{◌+◌, ◌*◌, length, sym, ◌∙◌, arith, rules}
+use Rattle.std.proofs.Common.{◌+◌, ◌*◌, length, sym, ◌∙◌, arith}
 use Rattle.tables.specs.FrameLaws.{framed_not}
 use Rattle.tables.specs.FindLaws.{table_unframed, table_empty, table_short, table_long, table_none, group_bytes, table_missing}
 use Rattle.tables.specs.Seat.{Seated, Found, seated, seated_few, seated_end, seated_last}
@@ -23,10 +23,6 @@ pub returns-then-b-at-eq0 : goal.returns-then-b-at-eq0
 unfolding Found
 returns-then-b-at-eq0 c = let a = c.args in table_empty a.at a.most a.b.now a.w.now c.if-b-at-eq0.true
 
-pub overflow_cast-c : goal.overflow_cast-c
-overflow_cast-c c = let a = c.args in
-    omega (arith, c.type_inv.b (a.at + length a.w.now))
-
 pub returns-then-c-eq0 : goal.returns-then-c-eq0
 unfolding Found
 returns-then-c-eq0 c = let a = c.args in
@@ -36,11 +32,6 @@ pub returns-then-not-framed : goal.returns-then-not-framed
 unfolding Found
 returns-then-not-framed c = let a = c.args in
     table_unframed a.at a.most a.b.now a.w.now (sym c.framed.ensures ∙ c.if-not-framed.true)
-
-pub start_of-g-requires : goal.start_of-g-requires
-start_of-g-requires c = search rules
-
--- at the call of `seek` and behind it: the table is framed and has words
 
 pub seek-j-requires : goal.seek-j-requires
 seek-j-requires c = let a = c.args in

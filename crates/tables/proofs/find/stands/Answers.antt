@@ -16,7 +16,3 @@ returns-then-tail-x c = let b = c.args.b.now in
     let hb : Bytes b = λ i. omega (arith, c.type_inv.b i) in
     let t = c.tail.ensures ∙ ap (λ (n : ℕ). tail_of b c.args.e n) c.requires.h_value in
     ends_other b w c.args.e hb (omega arith) (omega arith) (omega arith) (λ n. c.if-tail-x.true (t ∙ n ∙ sym c.requires.x_value))
-
-pub rest_same-requires : goal.rest_same-requires
-rest_same-requires c = let t = c.tail.ensures ∙ ap (λ (n : ℕ). tail_of c.args.b.now c.args.e n) c.requires.h_value in
-    record { in_bounds = omega arith; w_len_bound = omega arith; w_len_bound_2 = omega arith; e_in_bounds = omega arith; le_e = omega arith; w_value = sym t ∙ c.if-tail-x.false ∙ c.requires.x_value }

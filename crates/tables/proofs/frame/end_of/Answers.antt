@@ -1,6 +1,6 @@
 -- `frame::end_of` meets its contract: the words of the greatest length are the last.
 -- Assumes nothing.
-use Rattle.std.proofs.Common.{◌+◌, arith}
+use Rattle.std.proofs.Common.{arith}
 use Rattle.limits.specs.Limits.{word_limit}
 use Rattle.tables.specs.FrameLaws.{framed_told, bytes_next, lengths_sum}
 use Rattle.tables.proofs.frame.end_of.Goals as goal
@@ -13,12 +13,6 @@ start_of-s-requires c = let a = c.args in
 pub bounds-b-at : goal.bounds-b-at
 bounds-b-at c = let a = c.args in
     omega (arith, (framed_told a.at a.most a.b.now c.requires.b_value).size)
-
-pub overflow_cast-result : goal.overflow_cast-result
-overflow_cast-result c = omega (arith, c.type_inv.b (c.args.at + word_limit))
-
-pub overflow_mul-result : goal.overflow_mul-result
-overflow_mul-result c = omega (arith, c.type_inv.b (c.args.at + word_limit))
 
 pub overflow_add-result-2 : goal.overflow_add-result-2
 overflow_add-result-2 c = let a = c.args in

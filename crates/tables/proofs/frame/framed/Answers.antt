@@ -9,9 +9,6 @@ pub returns-then-b-at : goal.returns-then-b-at
 returns-then-b-at c = let a = c.args in
     sym (framed_not a.at a.most a.b.now (λ f. omega (arith, f.size)))
 
-pub overflow_cast-n : goal.overflow_cast-n
-overflow_cast-n c = omega (arith, c.type_inv.b c.args.at)
-
 pub returns-then-most-n : goal.returns-then-most-n
 returns-then-most-n c = let a = c.args in
     sym (framed_not a.at a.most a.b.now (λ f. omega (arith, f.few)))

@@ -14,28 +14,15 @@ bounds-b-at c = let a = c.args in
     let is = sym c.framed.ensures ∙ c.if-not-framed.false in
     omega (arith, (framed_told a.at a.most a.b.now is).size)
 
-pub overflow_cast-n : goal.overflow_cast-n
-overflow_cast-n c = omega (arith, c.type_inv.b c.args.at)
-
 pub returns-then-n-eq0 : goal.returns-then-n-eq0
 returns-then-n-eq0 c = let a = c.args in
     let is = sym c.framed.ensures ∙ c.if-not-framed.false in
     sym (test_empty a.at a.most a.b.now is c.if-n-eq0.true)
 
-pub ordered-end-requires : goal.ordered-end-requires
-ordered-end-requires c = let a = c.args in
-    let is = sym c.framed.ensures ∙ c.if-not-framed.false in record { b_value = is; at_nonzero = omega arith }
-
 pub returns-then-end-eq0 : goal.returns-then-end-eq0
 returns-then-end-eq0 c = let a = c.args in
     let is = sym c.framed.ensures ∙ c.if-not-framed.false in
     sym (test_unordered a.at a.most a.b.now is (omega arith) c.ordered-end.result c.ordered-end.ensures c.if-end-eq0.true)
-
-pub overflow_add-commands-3 : goal.overflow_add-commands-3
-overflow_add-commands-3 c = let a = c.args in
-    let is = sym c.framed.ensures ∙ c.if-not-framed.false in
-    let f = framed_told a.at a.most a.b.now is in
-    omega (arith, f.size, f.few)
 
 pub all_commands-requires : goal.all_commands-requires
 all_commands-requires c = let a = c.args in

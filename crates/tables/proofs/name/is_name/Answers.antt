@@ -2,7 +2,6 @@
 -- Assumes nothing.
 use Rattle.std.proofs.Common.{length, arith, le-leb}
 use borrow.Author.Tests.{lt-leb}
-use Rattle.scan.specs.Bytes.{is_kind}
 use Rattle.tables.specs.Table.{is_name}
 use Rattle.tables.proofs.name.is_name.Goals as goal
 
@@ -15,5 +14,5 @@ unfolding is_name
 returns-then-n-gt-WORD c = rw (le-leb 1 (length c.args.w.now) (omega (arith, c.if-n-eq0.false)), lt-leb _ _ c.if-n-gt-WORD.true)
 
 pub returns : goal.returns
-unfolding is_name is_kind
+unfolding is_name
 returns c = rw (c.run_end.ensures, le-leb 1 (length c.args.w.now) (omega (arith, c.if-n-eq0.false)), le-leb _ _ c.if-n-gt-WORD.false)

@@ -5,20 +5,8 @@ use Rattle.tables.specs.FrameLaws.{framed_told}
 use Rattle.tables.specs.OrderLaws.{ordered_start, ordered_end, ordered_short, ordered_few, ordered_fits, ordered_not, ordered_next}
 use Rattle.tables.proofs.order.ordered.Goals as goal
 
-pub overflow_add-q : goal.overflow_add-q
-overflow_add-q c = omega (arith, (framed_told _ _ _ c.requires.b_value).size)
-
-pub overflow_add-q-2 : goal.overflow_add-q-2
-overflow_add-q-2 c = omega (arith, (framed_told _ _ _ c.requires.b_value).size)
-
 pub overflow_add-q-3 : goal.overflow_add-q-3
 overflow_add-q-3 c = omega (arith, (framed_told _ _ _ c.requires.b_value).size)
-
-pub bounds-b-at : goal.bounds-b-at
-bounds-b-at c = omega (arith, (framed_told _ _ _ c.requires.b_value).size)
-
-pub overflow_cast-left : goal.overflow_cast-left
-overflow_cast-left c = omega (arith, c.type_inv.b c.args.at)
 
 pub loop-left-init : goal.loop-left-init
 loop-left-init c = let a = c.args in
@@ -31,10 +19,6 @@ overflow_add-c c = let o = c.loop-left.invariant in
 pub bounds-b-at-in-loop-left : goal.bounds-b-at-in-loop-left
 bounds-b-at-in-loop-left c = let o = c.loop-left.invariant in
     omega (arith, o.frame.size, ordered_short o (omega arith))
-
-pub overflow_cast-c : goal.overflow_cast-c
-overflow_cast-c c = let a = c.args in
-    omega (arith, c.type_inv.b (a.at + c.loop-left.m))
 
 pub rises-requires : goal.rises-requires
 rises-requires c = let a = c.args in

@@ -28,13 +28,6 @@ tail-y-requires c = let a = c.args in
     let r = c.loop-e.invariant.0 in
     record { le_e = omega (arith, r.room); e_in_bounds = omega (arith, risen_room r (omega arith)); h_bound = omega (arith, c.hidden-h.ensures, hidden_most a.m (omega arith)) }
 
-pub after-requires : goal.after-requires
-after-requires c = let a = c.args in
-    let l = c.loop-e in
-    let r = l.invariant.0 in
-    let y = c.tail-y.ensures ∙ ap (λ (h : ℕ). tail_of a.b.now (l.e + a.m) h) c.hidden-h.ensures in
-    record { m_le_e = omega (arith, r.room); m_in_bounds = omega (arith, risen_room r (omega arith)); le_m = omega arith; m_le_word_limit = omega arith; le_e = omega (arith, r.room); x_value = l.invariant.1; y_value = y }
-
 pub returns-then-not-after : goal.returns-then-not-after
 returns-then-not-after c = sym (risen_not c.loop-e.invariant.0 (omega arith) (sym c.after.ensures ∙ c.if-not-after.true))
 

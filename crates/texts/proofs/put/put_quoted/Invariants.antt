@@ -1,12 +1,7 @@
 -- `texts::put::put_quoted` meets its contract.
 -- Assumes nothing.
 use Rattle.texts.specs.Behind.{Behind}
-use lib.ListN.{length}
-use Prim.Native.Nat.{◌-◌}
 use Rattle.texts.proofs.put.put_quoted.Given as goal
 
 abbrev pub invariant-loop-i : goal.invariant-loop-i
 invariant-loop-i l = Behind l.initial.out l.out l.initial.to l.to
-
-abbrev pub decreases-loop-i : goal.decreases-loop-i
-decreases-loop-i l = length l.s - l.i

@@ -33,7 +33,7 @@ returns-then-store-line c = let a = c.args in
 
 pub put_line-n-requires : goal.put_line-n-requires
 put_line-n-requires c = let a = c.args in
-    rw c.words_of.ensures record { classes = c.classes-table.ensures; line_len_bound = c.if-line-gt-LINE.false; room = line_room_lem _ a.line.now a.store.now c.if-store-line.false }
+    rw c.words_of.ensures record { line_len_bound = c.if-line-gt-LINE.false; room = line_room_lem _ a.line.now a.store.now c.if-store-line.false }
 
 pub returns : goal.returns
 unfolding tokens_on

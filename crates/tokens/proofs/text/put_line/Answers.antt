@@ -11,7 +11,6 @@ put_texts-at-requires c = let a = c.args in
     let table = table_of (session_of a.words.now) in
     rw c.texts_end-e.ensures
     record {
-      classes = c.requires.classes;
       line_len_bound = c.requires.line_len_bound;
       e_in_bounds = texts_inside table a.line.now;
       room = room_first _ _ (rw (line_bytes_lem table a.line.now) at c.requires.room);
@@ -23,7 +22,6 @@ put_tokens-requires c = let a = c.args in
     let p = rw c.texts_end-e.ensures at c.put_texts-at.ensures in
     rw c.texts_end-e.ensures
     record {
-      classes = c.requires.classes;
       lead_value = c.lead_of-lead.ensures;
       to_in_bounds = omega arith;
       o_len_bound = omega (arith, c.requires.line_len_bound);

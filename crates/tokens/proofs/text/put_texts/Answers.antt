@@ -27,7 +27,6 @@ put_tokens-at-requires c = let a = c.args in
     let room = telling_room (table_of (session_of a.words.now)) a.line.now a.e inside t c.loop-again-test.true c.requires.room in
     rw (c.part-in-loop-again.ensures, t.led)
     record {
-      classes = c.requires.classes;
       lead_value = refl;
       to_in_bounds = lead_inside (part_of a.line.now f a.e);
       o_len_bound = omega (arith, size, t.within, inside, c.requires.line_len_bound);
@@ -69,7 +68,6 @@ put_tokens-requires c = let a = c.args in
     let room = telling_last (table_of (session_of a.words.now)) a.line.now a.e inside t c.loop-again-test.false c.requires.room in
     rw c.part-3.ensures
     record {
-      classes = c.requires.classes;
       lead_value = t.led;
       to_in_bounds = omega (arith, size);
       o_len_bound = omega (arith, size, t.within, inside, c.requires.line_len_bound);

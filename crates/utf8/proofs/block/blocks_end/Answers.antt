@@ -4,18 +4,9 @@ use Rattle.std.proofs.Common.{◌-◌, length, arith}
 use Rattle.utf8.specs.Utf8Blocks.{place_run, place_to}
 use Rattle.utf8.proofs.block.blocks_end.Goals as goal
 
-pub loop-t-init : goal.loop-t-init
-loop-t-init c = (omega (arith, c.requires), λ i p. p)
-
-pub returns-then-any_odd : goal.returns-then-any_odd
-returns-then-any_odd c = λ i p. c.last_start.ensures i (c.loop-t.invariant.1 i p)
-
 pub loop-t-preserved : goal.loop-t-preserved
 loop-t-preserved c = let a = c.args in
-    (omega (arith, c.loop-t.invariant.0), λ i p. place_run a.s.now i c.loop-t.t 32 (omega (arith, c.loop-t.invariant.0)) (c.any_odd.ensures c.if-any_odd.false) (c.loop-t.invariant.1 i p))
-
-pub returns-then-any_odd-2 : goal.returns-then-any_odd-2
-returns-then-any_odd-2 c = λ i p. c.last_start-then-any_odd-2.ensures i (c.loop-t.invariant.1 i p)
+    (omega (arith, c.loop-t.invariant.0), λ i p. place_run a.s.now i c.loop-t.t 32 (omega (arith, c.loop-t.invariant.0)) (c.all_joined.ensures c.if-not-all_joined.false) (c.loop-t.invariant.1 i p))
 
 pub returns : goal.returns
 returns c = let a = c.args in
@@ -24,5 +15,5 @@ returns c = let a = c.args in
     c.last_start-2.ensures i
     (place_to a.s.now i c.loop-t.t (n - 32 - 2) 32 (n - 2) (omega (arith, c.loop-t.invariant.0)) (omega (arith, c.loop-t.invariant.0))
     (omega (arith, c.loop-t.invariant.0)) (omega (arith, c.requires))
-    (c.any_odd-2.ensures c.if-any_odd-2.false)
+    (c.all_joined-2.ensures c.if-not-all_joined-2.false)
     (c.loop-t.invariant.1 i p))

@@ -1,6 +1,6 @@
 -- `utf8::any_sequence` meets its contract.
 -- Assumes nothing.
-use Rattle.std.proofs.Common.{◌≡◌, ℕ, suc, ◌+◌, ◌-◌, ◌<◌, ◌≤◌, sym, ◌∙◌, arith, rules}
+use Rattle.std.proofs.Common.{◌≡◌, ℕ, suc, ◌+◌, ◌-◌, ◌<◌, ◌≤◌, sym, ◌∙◌, arith}
 use Rattle.scan.specs.Bytes.{within}
 use Rattle.scan.specs.Scan.{byte_at}
 use Rattle.utf8.specs.Utf8.{lowest, highest}
@@ -22,11 +22,6 @@ returns-then-n-eq0 c = sequence_one _ _ c.requires (sym c.followers-n.ensures �
 
 pub returns-then-n-eq4 : goal.returns-then-n-eq4
 returns-then-n-eq4 c = sequence_none _ _ c.requires (sym c.followers-n.ensures ∙ c.if-n-eq4.true)
-
-pub follows-requires : goal.follows-requires
-follows-requires c = search rules
-
--- the second byte is told by what may follow the first
 
 pub returns-then-not-follows : goal.returns-then-not-follows
 returns-then-not-follows c =

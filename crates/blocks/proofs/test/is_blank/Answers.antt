@@ -1,6 +1,0 @@
--- `test::is_blank` meets its contract.
--- Assumes nothing.
-use Rattle.blocks.proofs.test.is_blank.Goals as goal
-
-pub returns : goal.returns
-returns c = rw (c.either-2.ensures, c.either.ensures)

@@ -1,9 +1,0 @@
--- `words::four` meets its contract.
--- Assumes nothing.
-use native.Mathlib.Omega.{arith}
-use Rattle.words.specs.KeyLaws.{number_join}
-use Rattle.words.proofs.words.four.Goals as goal
-
-pub returns : goal.returns
-returns c = let a = c.two.ensures in
-    let b = c.two-2.ensures in record { value = number_join _ _ 2 2 _ _ (omega arith) a.value b.value; bound = omega (arith, a.bound, b.bound) }
