@@ -1,4 +1,6 @@
 // Where two reports differ: the first line that is not the same in both, before their last lines.
+ghost use Rattle.std.specs.Prelude.{◌≡◌, ◌+◌, ◌%◌, ◌^◌, ◌<◌, ◌≤◌, IfOk, length};
+
 use console::told::Errors;
 use files::file::{Unread, window};
 use reports::text::{common, count_ends};
@@ -19,7 +21,9 @@ impl Report<'_> {
         rt: &impl Errors,
         at: u64,
         into: &'b mut [u8],
-    ) -> Result<&'b [u8], Unread> {
+    ) -> Result<&'b [u8], Unread>
+        ensures { IfOk result (λ b. (0 < length b.now) × (at + length b.now ≤ self.now.last)) }
+    {
         window(rt, self.name, self.file, at, self.last, into)
     }
 }
@@ -41,7 +45,9 @@ pub struct Place {
 
 impl Place {
     // So many lines on, and so many bytes in each report.
-    pub fn further(self, lines: u64, a: u64, b: u64) -> Place {
+    pub fn further(self, lines: u64, a: u64, b: u64) -> Place
+        ensures { result ≡ record { line = (self.line + lines) % 2 ^ 64; a = (self.a + a) % 2 ^ 64; b = (self.b + b) % 2 ^ 64 } }
+    {
         Place {
             line: self.line.wrapping_add(lines),
             a: self.a.wrapping_add(a),

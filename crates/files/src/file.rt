@@ -1,4 +1,6 @@
 // Bytes of a file, from any place of it.
+ghost use Rattle.std.specs.Prelude.{IfOk, ◌<◌, ◌≤◌, ◌+◌, length};
+
 use super::tell::{tell, tell_failed};
 use console::told::Errors;
 use std::fs::File;
@@ -20,7 +22,9 @@ pub fn window<'b>(
     at: u64,
     stop: u64,
     bytes: &'b mut [u8],
-) -> Result<&'b [u8], Unread> {
+) -> Result<&'b [u8], Unread>
+    ensures { IfOk result (λ b. (0 < length b.now) × (at + length b.now ≤ stop)) }
+{
     match file.read_at(bytes, at.min(LAST_PLACE)) {
         Err(e) => {
             tell_failed(rt, name, e);

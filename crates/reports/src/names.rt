@@ -1,4 +1,5 @@
 // Lines that differ in the name of a file alone: what stands behind the name, how many bytes it has and their number, is the same.
+ghost use Rattle.std.specs.Prelude.{IfSome, ◌<◌, length};
 
 // Which names differ: the sheet's, the alias file's, or both.
 #[derive(Clone, Copy, PartialEq, Eq)]
@@ -32,7 +33,9 @@ fn same_behind(a: &[u8], b: &[u8]) -> bool {
 }
 
 // The lines that two texts start with, if both start with a word, end in the texts and differ in a name alone.
-fn named_by(a: &[u8], b: &[u8], word: &[u8], names: Names) -> Option<Named> {
+fn named_by(a: &[u8], b: &[u8], word: &[u8], names: Names) -> Option<Named>
+    ensures { IfSome result (λ n. (n.a < length a.now) × (n.b < length b.now)) }
+{
     if !a.starts_with(word) || !b.starts_with(word) {
         return None;
     }
@@ -46,7 +49,9 @@ fn named_by(a: &[u8], b: &[u8], word: &[u8], names: Names) -> Option<Named> {
 }
 
 // The lines with this number that two texts start with, if they differ in a name alone: the second names the sheet, the third the aliases.
-pub fn named_at(line: u64, a: &[u8], b: &[u8]) -> Option<Named> {
+pub fn named_at(line: u64, a: &[u8], b: &[u8]) -> Option<Named>
+    ensures { IfSome result (λ n. (n.a < length a.now) × (n.b < length b.now)) }
+{
     match line {
         2 => named_by(a, b, b"sheet ", Names::Sheet),
         3 => named_by(a, b, b"aliases ", Names::Aliases),

@@ -5,6 +5,8 @@
 pub mod answer;
 pub mod op;
 
+ghost use Rattle.std.specs.Prelude.{◌≡◌, ◌+◌, ◌*◌};
+
 use op::Op;
 use std::io;
 use std::io::Read;
@@ -31,7 +33,9 @@ impl From<io::Error> for Unread {
 }
 
 // The number in two bytes, the low byte first.
-pub fn pair(low: u8, high: u8) -> usize {
+pub fn pair(low: u8, high: u8) -> usize
+    ensures { result ≡ low + 256 * high }
+{
     usize::from(u16::from_le_bytes([low, high]))
 }
 

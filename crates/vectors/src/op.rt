@@ -1,4 +1,6 @@
 // What a vector asks for.
+ghost use Rattle.std.specs.Prelude.{◌≡◌};
+ghost use Rattle.vectors.specs.Op.{op_of};
 
 // A list of which items is read.
 #[derive(Clone, Copy, PartialEq, Eq)]
@@ -24,6 +26,9 @@ pub enum Op {
 
 // The oracle's numbers. Those above 9 do not occur, and are read as 9.
 impl From<u8> for Op {
+    ghost from_gives = { λ n o. o ≡ op_of n };
+
+    #[tactic(auto, unfolding(crate::specs::Op::op_of))]
     fn from(number: u8) -> Op {
         match number {
             0 => Op::Fresh,
