@@ -42,8 +42,8 @@ def words():
     """The words of each refusal: they stand in its case, or in the function that it calls."""
     text = (CRATES / 'reasons/src/lib.rt').read_text()
     said, known = {}, limits()
-    bodies = dict(re.findall(r'\nfn (\w+)\(out: &mut \[u8\], at: usize\) -> usize\n[^\n]*\n\{\n(.*?)\n\}\n', text, re.DOTALL))
-    for name, call in re.findall(r'Refusal::(\w+) => (put_\w+\([^;{}]*?\))\s*[,}]', text):
+    bodies = dict(re.findall(r"\nfn (\w+)\(page: &mut Page<'_>\)\n[^\n]*\n\{\n(.*?)\n\}\n", text, re.DOTALL))
+    for name, call in re.findall(r'Refusal::(\w+) => ((?:put_\w+|page\.text)\([^;{}]*?\))\s*[,}]', text):
         parts = re.findall(r'b"([^"]*)"|\b([A-Z_]{2,})\b', bodies.get(call.split('(')[0], call))
         said[name] = ''.join(str(known[limit]) if limit else literal for literal, limit in parts)
     return said

@@ -1,6 +1,6 @@
 -- The record of an action. Document 01, section Session, "The record". Grouped to the right, as the laws of a chain of writes want it.
 -- Assumes nothing.
-use Rattle.std.specs.Prelude.{Bool, true, false, List, ◌++◌, ℕ}
+use Rattle.std.specs.Prelude.{Bool, true, false, List, ◌++◌, ℕ, Option, Some, None}
 use Rattle.store.specs.Sevens.{encode, named}
 use Rattle.lists.specs.Lists.{text_at}
 use Rattle.ranges.specs.declared.range.MoveDir1D.{MoveDir1D}
@@ -13,11 +13,11 @@ use Rattle.actions.specs.declared.action.Side.{Side}
 use Rattle.actions.specs.declared.action.FocusChange.{FocusChange}
 use Rattle.actions.specs.declared.action.Target.{Target}
 use Rattle.actions.specs.declared.action.OpenTarget.{OpenTarget}
-use Rattle.actions.specs.declared.action.WriteName.{WriteName}
 use Rattle.actions.specs.declared.action.SizeChange.{SizeChange}
 use Rattle.actions.specs.declared.action.WindowAction.{WindowAction}
 use Rattle.actions.specs.declared.action.TabAction.{TabAction}
 use Rattle.actions.specs.declared.action.Action.{Action}
+use Rattle.lists.specs.declared.list.Item.{Item}
 
 -- the actions of the paper: what is opened or written is named by bytes ----------------------------------------------------------------
 
@@ -51,9 +51,9 @@ opened_of s OpenTarget.Alternate = Opened.alternate
 opened_of s OpenTarget.Unnamed = Opened.unnamed
 opened_of s (OpenTarget.Name x) = Opened.name (text_at s x.start)
 
-abbrev pub written_of : List ℕ → WriteName → Written
-written_of s WriteName.Absent = Written.absent
-written_of s (WriteName.Name x) = Written.name (text_at s x.start)
+abbrev pub written_of : List ℕ → Option Item → Written
+written_of s None = Written.absent
+written_of s (Some x) = Written.name (text_at s x.start)
 
 abbrev pub window_of : List ℕ → WindowAction → Paper
 window_of s (WindowAction.Close t f) = Paper.Close t f

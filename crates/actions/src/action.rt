@@ -49,13 +49,6 @@ pub enum OpenTarget {
     Name(Item),
 }
 
-// The file that is written, if it is named; the name is told as above.
-#[derive(Clone, Copy)]
-pub enum WriteName {
-    Absent,
-    Name(Item),
-}
-
 #[derive(Clone, Copy)]
 pub enum SizeChange {
     Exact(u64),
@@ -70,7 +63,7 @@ pub enum WindowAction {
     Open(OpenTarget, OpenFlags, Axis, Side, Count),
     Split(OpenTarget, OpenFlags, Axis, Side, Count),
     Switch(OpenTarget, OpenFlags),
-    Write(Target, WriteName, WriteFlags),
+    Write(Target, Option<Item>, WriteFlags),
 }
 
 #[derive(Clone, Copy)]

@@ -1,5 +1,6 @@
-// Records written to a store. Each function needs room for the longest that it can write, and says that it wrote no more.
-ghost use Rattle.std.specs.Prelude.{◌++◌, ◌+◌, ◌≤◌, ◌<◌, length};
+// Records written to a store. Each function needs room for the longest that it can write, and says that it wrote no more. It takes the store
+// and a place and answers the next: a writer would hold both, and each of its methods would say the same of the store before and after.
+ghost use Rattle.std.specs.Prelude.{◌++◌, ◌+◌, ◌≤◌, ◌<◌, length, ◌≡◌, ℕ};
 ghost use Rattle.limits.specs.Limits.{spare};
 ghost use Rattle.store.specs.Sevens.{encode, named};
 ghost use Rattle.lists.specs.Lists.{text_at};
@@ -7,11 +8,10 @@ ghost use Rattle.actions.specs.Within.{Within};
 ghost use Rattle.actions.specs.Record.{direction_no, side_no, axis_no, bool_no, count_bytes, focus_bytes, target_bytes, opened_of, opened_bytes, written_of, written_bytes, change_bytes, window_of, tab_of, paper_record, nothing_record, record_of};
 
 use super::action::{
-    Action, Axis, Count, FocusChange, OpenTarget, Side, SizeChange, TabAction, Target,
-    WindowAction, WriteName,
+    Action, Axis, Count, FocusChange, OpenTarget, Side, SizeChange, TabAction, Target, WindowAction,
 };
 use super::flags::{CloseFlags, OpenFlags, WriteFlags};
-use lists::list::put_item;
+use lists::list::{Item, put_item};
 use ranges::range::MoveDir1D;
 use store::put_number;
 
@@ -33,44 +33,53 @@ fn put_any(store: &mut [u8], at: usize, n: u64) -> usize
     put_number(store, at, n)
 }
 
-fn put_direction(store: &mut [u8], at: usize, d: MoveDir1D) -> usize
-    requires { at + 1 ≤ length store.old }
-    ensures { Within store.old store.new at result (encode (direction_no d)) 1 }
-{
-    match d {
-        MoveDir1D::Next => put_small(store, at, 0),
-        MoveDir1D::Previous => put_small(store, at, 1),
+// A type of few cases, each of which has a number in the record.
+trait Cases: Copy {
+    ghost no: { Self → ℕ };
+
+    fn number(self) -> u64
+        ensures value { result ≡ no self }
+        ensures small { result < 128 };
+}
+
+impl Cases for MoveDir1D {
+    ghost no = { direction_no };
+
+    fn number(self) -> u64 {
+        self as u64
     }
 }
 
-fn put_side(store: &mut [u8], at: usize, d: Side) -> usize
-    requires { at + 1 ≤ length store.old }
-    ensures { Within store.old store.new at result (encode (side_no d)) 1 }
-{
-    match d {
-        Side::Next => put_small(store, at, 0),
-        Side::Previous => put_small(store, at, 1),
+impl Cases for Side {
+    ghost no = { side_no };
+
+    fn number(self) -> u64 {
+        self as u64
     }
 }
 
-fn put_axis(store: &mut [u8], at: usize, a: Axis) -> usize
-    requires { at + 1 ≤ length store.old }
-    ensures { Within store.old store.new at result (encode (axis_no a)) 1 }
-{
-    match a {
-        Axis::Horizontal => put_small(store, at, 0),
-        Axis::Vertical => put_small(store, at, 1),
+impl Cases for Axis {
+    ghost no = { axis_no };
+
+    fn number(self) -> u64 {
+        self as u64
     }
 }
 
-fn put_bool(store: &mut [u8], at: usize, b: bool) -> usize
-    requires { at + 1 ≤ length store.old }
-    ensures { Within store.old store.new at result (encode (bool_no b)) 1 }
-{
-    if b {
-        return put_small(store, at, 1);
+impl Cases for bool {
+    ghost no = { bool_no };
+
+    fn number(self) -> u64 {
+        self as u64
     }
-    put_small(store, at, 0)
+}
+
+// The number of a case.
+fn put_case<K: Cases>(store: &mut [u8], at: usize, k: K) -> usize
+    requires { at + 1 ≤ length store.old }
+    ensures { Within store.old store.new at result (encode (K.no k)) 1 }
+{
+    put_small(store, at, k.number())
 }
 
 fn put_count(store: &mut [u8], at: usize, c: Count) -> usize
@@ -98,9 +107,9 @@ fn put_focus(store: &mut [u8], at: usize, f: FocusChange) -> usize
         }
         FocusChange::Direction1D(d, c, w) => {
             let i = put_small(store, at, 2);
-            let j = put_direction(store, i, d);
+            let j = put_case(store, i, d);
             let k = put_count(store, j, c);
-            put_bool(store, k, w)
+            put_case(store, k, w)
         }
         FocusChange::Beginning => put_small(store, at, 3),
         FocusChange::End => put_small(store, at, 4),
@@ -169,13 +178,13 @@ fn put_opened(store: &mut [u8], at: usize, s: &[u8], t: OpenTarget) -> usize
 }
 
 // The file that is written, if it is named.
-fn put_written(store: &mut [u8], at: usize, s: &[u8], n: WriteName) -> usize
+fn put_written(store: &mut [u8], at: usize, s: &[u8], n: Option<Item>) -> usize
     requires { at + (11 + length s.now) ≤ length store.old }
     ensures { Within store.old store.new at result (written_bytes (written_of s.now n)) (11 + length s.now) }
 {
     match n {
-        WriteName::Absent => put_small(store, at, 0),
-        WriteName::Name(x) => {
+        None => put_small(store, at, 0),
+        Some(x) => {
             let i = put_small(store, at, 1);
             put_item_within(store, i, s, x.start)
         }
@@ -210,7 +219,7 @@ fn put_resized(store: &mut [u8], at: usize, f: FocusChange, a: Axis, c: SizeChan
 {
     let i = put_small(store, at, 2);
     let j = put_focus(store, i, f);
-    let k = put_axis(store, j, a);
+    let k = put_case(store, j, a);
     put_change(store, k, c)
 }
 
@@ -233,8 +242,8 @@ fn put_window(
     let h = put_small(store, at, kind);
     let i = put_opened(store, h, s, t);
     let j = put_any(store, i, f.bits);
-    let k = put_axis(store, j, a);
-    let l = put_side(store, k, d);
+    let k = put_case(store, j, a);
+    let l = put_case(store, k, d);
     put_count(store, l, n)
 }
 
@@ -249,7 +258,14 @@ fn put_switched(store: &mut [u8], at: usize, s: &[u8], t: OpenTarget, f: OpenFla
 }
 
 // Windows that are written: target, name, flags.
-fn put_write(store: &mut [u8], at: usize, s: &[u8], t: Target, n: WriteName, f: WriteFlags) -> usize
+fn put_write(
+    store: &mut [u8],
+    at: usize,
+    s: &[u8],
+    t: Target,
+    n: Option<Item>,
+    f: WriteFlags,
+) -> usize
     requires { at + (37 + length s.now) ≤ length store.old }
     ensures { Within store.old store.new at result (encode 6 ++ (target_bytes t ++ (written_bytes (written_of s.now n) ++ encode f.bits))) (37 + length s.now) }
 {

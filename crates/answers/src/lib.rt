@@ -1,21 +1,20 @@
 // What `reading` answers to a text that is a whole reading (op 7), as the oracle writes it. Ranges and lists have crates of their own.
 #![tactic(auto)]
 
-use limits::refusal::Refusal;
 use range_answers::put_range;
 use ranges::range::RangeRead;
-use reading::line::{CommandDescription, CommandRead};
+use reading::line::CommandDescription;
 use scan::part::part;
 use vectors::answer::Answer;
 
 fn put_optional_range(out: &mut Answer, text: &[u8], r: RangeRead) {
     match r {
-        RangeRead::Found(g, _) => {
+        Ok(Some((g, _))) => {
             out.put_number(1);
             put_range(out, text, g);
         }
-        RangeRead::Absent => out.put_number(0),
-        RangeRead::TooLarge => (),
+        Ok(None) => out.put_number(0),
+        Err(_) => (),
     }
 }
 
@@ -28,11 +27,10 @@ fn put_reading(out: &mut Answer, text: &[u8], d: CommandDescription) {
 
 pub fn answer_reading(text: &[u8], out: &mut Answer) {
     match reading::line::parse(text) {
-        CommandRead::Command(d) => {
+        Ok(d) => {
             out.put_number(0);
             put_reading(out, text, d);
         }
-        CommandRead::Failed => out.refuse(Refusal::ParseFailed),
-        CommandRead::TooLarge => out.refuse(Refusal::NumberTooLarge),
+        Err(why) => out.refuse(why),
     }
 }

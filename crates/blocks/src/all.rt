@@ -33,6 +33,7 @@ fn all_of_many<C: Class>(s: &[u8]) -> bool
 {
     let mut m = C::all(&s[..128]);
     let mut i: usize = 128;
+    // Left at the first block that fails, and the last block is a part of the text that no whole number of them reaches.
     while m && 128 <= s.len() - i {
         m = C::all(&s[i..i + 128]);
         i += 128;

@@ -2,12 +2,14 @@
 // checks are short. What these calls answer is stated in `session`.
 #![tactic(auto)]
 
+use layout::places::SESSION;
+use limits::refusal::Refusal;
 use run::reply::LineReply;
-use session::lent::{alias_in, fresh_in, line_in};
+use session::lent::{alias_in, line_in};
 
-// Writes a fresh session, and answers the refusal's number or 0.
-pub fn fresh(session: &mut [u8]) -> u64 {
-    fresh_in(session)
+// A fresh session.
+pub fn fresh() -> [u8; SESSION] {
+    session::value::fresh().bytes
 }
 
 // Runs a line.
@@ -15,7 +17,7 @@ pub fn run_line(session: &mut [u8], line: &[u8], store: &mut [u8]) -> LineReply 
     line_in(session, line, store)
 }
 
-// Adds an alias, or replaces it, and answers the refusal's number or 0.
-pub fn add_alias(session: &mut [u8], word: &[u8], command: u64) -> u64 {
+// Adds an alias, or replaces it.
+pub fn add_alias(session: &mut [u8], word: &[u8], command: u64) -> Result<(), Refusal> {
     alias_in(session, word, command)
 }

@@ -10,135 +10,93 @@ use calls::fresh;
 use console::argument::{argument, is_given};
 use console::file::{File, Sum, open_file, put_sum};
 use console::program::{Program, put_maker};
-use console::report::{Report, end_report, flush, fresh_report, up_to};
-use console::told::{DONE, Errors, FAILED, REFUSED, hand_over, say};
-use layout::places::SESSION;
-use orders_part::{Ordered, put_orders};
-use scan::part::part;
-use sheet::sheet::{Sheet, run, start};
+use console::report::Report;
+use console::told::{DONE, Errors, FAILED, Failure, REFUSED, hand_over, say};
+use orders_part::{Odd, put_orders};
+use sheet::sheet::{Kind, run};
 use spellings_part::put_spellings;
 use std::fs;
 use std::rt::{Env, Files};
 use tally::{COUNTS, put_tally};
-use texts::put::put_text;
+use texts::page::Page;
 
 // The CRC-32 of the reference sheet that this version is for.
 const REFERENCE: u64 = 3271276870;
 
-// Two parts, good if both are.
-fn both(a: Ordered, b: Ordered) -> Ordered {
-    let report = b.report;
-    Ordered {
-        report: report,
-        good: a.good && b.good,
-    }
-}
-
 // One line for tab prefixes, which win, and one for axes and sides.
-fn own_orders(rt: &(impl Print + Errors), out: &mut [u8], r: Report) -> Ordered {
-    let tabs = put_orders(rt, out, r, b"3tab tab vert abo sp a\\ b");
-    let report = tabs.report;
-    let others = put_orders(rt, out, report, b"vert hor abo bel hor sp a\\ b");
-    both(tabs, others)
+fn own_orders(rt: &(impl Print + Errors), report: &mut Report<'_>) -> Result<(), Odd> {
+    let tabs = put_orders(rt, report, b"3tab tab vert abo sp a\\ b");
+    let others = put_orders(rt, report, b"vert hor abo bel hor sp a\\ b");
+    tabs.and(others)
 }
 
 // The orders of the prefixes of the line that is given, or of two where none is.
-fn orders(rt: &(impl Print + Errors + Env), out: &mut [u8], r: Report) -> Ordered {
+fn orders(rt: &(impl Print + Errors + Env), report: &mut Report<'_>) -> Result<(), Odd> {
     if !is_given(rt, 2) {
-        return own_orders(rt, out, r);
+        return own_orders(rt, report);
     }
     let mut line = [0u8; 4096];
-    let n = argument(rt, 2, &mut line);
-    put_orders(rt, out, r, part(&line, 0, n))
+    put_orders(rt, report, argument(rt, 2, &mut line))
 }
 
-// The reference sheet's lines.
-fn reference(
+// Whether a sum is that of the reference sheet that this version is for. If it is not, that is told.
+fn check(rt: &impl Errors, s: Sum, path: &[u8]) -> Result<(), Failure> {
+    if s.crc() == REFERENCE {
+        return Ok(());
+    }
+    say(
+        rt,
+        Program::Checklist,
+        path,
+        b" is not the reference sheet of this version",
+    );
+    Err(Failure)
+}
+
+// The reference sheet's lines, summed up.
+fn put_reference(
     rt: &(impl Print + Errors),
     f: &mut File,
     path: &[u8],
-    counts: &mut [u64; COUNTS],
-    out: &mut [u8],
-    r: Report,
-) -> Sheet {
-    let mut session = [0u8; SESSION];
-    fresh(&mut session);
-    let at = put_text(out, r.at, b"reference sheet\n");
-    run(
+    report: &mut Report<'_>,
+) -> Result<(), Failure> {
+    let mut session = fresh();
+    let mut counts = [0u64; COUNTS];
+    report.page.text(b"reference sheet\n");
+    let done = run(
         rt,
-        f,
+        &mut f.handle,
         path,
+        Kind::Lines,
         &mut session,
-        counts,
-        out,
-        start(false, up_to(r, at)),
-    )
-}
-
-// Whether a sum is that of the reference sheet that this version is for.
-fn is_reference(rt: &impl Errors, s: Sum, path: &[u8]) -> bool {
-    if s.good && crc::end(s.crc) != REFERENCE {
-        say(
-            rt,
-            Program::Checklist,
-            path,
-            b" is not the reference sheet of this version",
-        );
-        return false;
-    }
-    s.good
-}
-
-// Sums the reference sheet up, and ends the report.
-fn summed_up(
-    rt: &(impl Print + Errors + Files),
-    out: &mut [u8],
-    s: Sheet,
-    counts: &[u64; COUNTS],
-    good: bool,
-) -> u64 {
-    let report = s.report;
-    let at = put_tally(out, report.at, counts);
-    if !end_report(rt, out, up_to(report, at)) {
-        return FAILED;
-    }
-    if good {
-        return DONE;
-    }
-    REFUSED
+        &mut counts,
+        report,
+    )?;
+    check(rt, done.sum, path)?;
+    put_tally(&mut report.page, &counts);
+    Ok(())
 }
 
 // Who made the report, and of which reference sheet.
-fn head(out: &mut [u8], sum: Sum) -> Report {
-    let i = put_maker(out, 0, Program::Checklist);
-    let j = put_text(out, i, b"reference sheet");
-    let k = put_sum(out, j, sum);
-    up_to(fresh_report(Program::Checklist, true), k)
+fn put_head(page: &mut Page<'_>, sum: Sum) {
+    put_maker(page, Program::Checklist);
+    page.text(b"reference sheet");
+    put_sum(page, sum);
 }
 
-// The head, the spellings and the orders.
-fn first_parts(rt: &(impl Print + Errors + Env), out: &mut [u8], sum: Sum) -> Ordered {
-    let r = head(out, sum);
-    let a = put_spellings(rt, out, r);
-    orders(rt, out, a)
-}
-
-// A report that is broken off has no number.
+// Ends a report. One that is broken off has no number.
 fn ended(
     rt: &(impl Print + Errors + Files),
-    out: &mut [u8],
-    path: &[u8],
-    s: Sheet,
-    counts: &[u64; COUNTS],
-    good: bool,
-) -> u64 {
-    let sum = s.sum;
-    if is_reference(rt, sum, path) {
-        return summed_up(rt, out, s, counts, good);
+    report: &mut Report<'_>,
+    told: Result<(), Failure>,
+) -> Result<(), Failure> {
+    match told {
+        Ok(()) => report.end(rt),
+        Err(Failure) => {
+            report.flush(rt);
+            Err(Failure)
+        }
     }
-    let report = s.report;
-    flush(rt, out, report);
-    FAILED
 }
 
 // All parts.
@@ -147,29 +105,32 @@ fn report(
     f: &mut File,
     path: &[u8],
     out: &mut [u8],
-) -> u64 {
-    let sum = f.sum;
-    let first = first_parts(rt, out, sum);
-    let r = first.report;
-    let mut counts = [0u64; COUNTS];
-    let s = reference(rt, f, path, &mut counts, out, r);
-    ended(rt, out, path, s, &counts, first.good)
+) -> Result<u64, Failure> {
+    let mut report = Report::new(Program::Checklist, out);
+    put_head(&mut report.page, f.sum);
+    put_spellings(rt, &mut report);
+    let ordered = orders(rt, &mut report);
+    let told = put_reference(rt, f, path, &mut report);
+    ended(rt, &mut report, told)?;
+    match ordered {
+        Ok(()) => Ok(DONE),
+        Err(Odd) => Ok(REFUSED),
+    }
 }
 
 // The report, where the sheet is the right one.
-fn verdict_of<R: Print + Errors + Env + Files<File = fs::File>>(rt: &R, path: &[u8]) -> u64 {
-    let mut f = open_file(rt, Program::Checklist, path, path);
-    let sum = f.sum;
-    if !is_reference(rt, sum, path) {
-        return FAILED;
-    }
+fn verdict_of<R: Print + Errors + Env + Files<File = fs::File>>(
+    rt: &R,
+    path: &[u8],
+) -> Result<u64, Failure> {
+    let mut f = open_file(rt, Program::Checklist, path, path)?;
+    check(rt, f.sum, path)?;
     let mut out = [0u8; 65536];
     report(rt, &mut f, path, &mut out)
 }
 
 fn main(rt: HostRuntime) {
     let mut path = [0u8; 4096];
-    let n = argument(&rt, 1, &mut path);
-    let verdict = verdict_of(&rt, part(&path, 0, n));
+    let verdict = verdict_of(&rt, argument(&rt, 1, &mut path)).unwrap_or(FAILED);
     hand_over(&rt, verdict);
 }

@@ -1,153 +1,125 @@
 // The line with its prefixes in every order, and how many orders agree with what the last prefixes say.
-use console::report::{Report, flush_full, up_to};
+use console::report::Report;
 use console::told::Errors;
 use limits::LINE;
 use orders::order::orders_of;
-use orders::prefixes::{Prefixes, prefixes_of};
-use orders::told::put_told;
-use texts::put::{put_byte, put_decimal, put_quoted, put_text};
+use orders::prefixes::{MOST, Prefixes, prefixes_of};
+use orders::told::{Agreement, Told, put_told};
+use texts::page::Page;
 use utf8::utf8::is_utf8;
 
 // A line with five prefixes may gain five spaces.
-const LONGEST: usize = LINE - 5;
+const LONGEST: usize = LINE - MOST;
 
-// How far the orders are told, how many agree, and whether one is refused.
+// That not all orders of a line agree and are accepted, or that they are not told.
+#[derive(Clone, Copy, PartialEq, Eq)]
+pub struct Odd;
+
+// How many orders agree, and how many of those are accepted.
 #[derive(Clone, Copy)]
 struct Orders {
-    report: Report,
     agree: u64,
-    refused: bool,
+    accepted: u64,
 }
 
-// The report behind the orders, and whether all of them agree and none is refused.
-#[derive(Clone, Copy)]
-pub struct Ordered {
-    pub report: Report,
-    pub good: bool,
-}
-
-fn one_more(n: u64, is: bool) -> u64 {
-    if is {
-        return n.wrapping_add(1);
-    }
-    n
-}
-
-// One order.
-fn turn(
-    rt: &(impl Print + Errors),
-    out: &mut [u8],
-    line: &[u8],
-    p: Prefixes,
-    number: u64,
-    s: Orders,
-) -> Orders {
-    let report = s.report;
-    let told = put_told(out, report.at, line, p, number);
-    Orders {
-        report: flush_full(rt, out, up_to(report, told.at)),
-        agree: one_more(s.agree, told.agrees),
-        refused: s.refused || told.refused,
+impl Orders {
+    // With one order more.
+    fn add(&mut self, told: Told) {
+        if told.agreement == Agreement::Agrees {
+            self.agree = self.agree.wrapping_add(1);
+            if told.reply.refusal == 0 {
+                self.accepted = self.accepted.wrapping_add(1);
+            }
+        }
     }
 }
 
 // The word behind the number of orders.
-fn put_orders_word(out: &mut [u8], at: usize, orders: u64) -> usize {
+fn put_orders_word(page: &mut Page<'_>, orders: u64) {
     if orders == 1 {
-        return put_text(out, at, b" order, ");
+        page.text(b" order, ");
+    } else {
+        page.text(b" orders, ");
     }
-    put_text(out, at, b" orders, ")
 }
 
 // How many orders there are, and how many agree.
-fn put_total(out: &mut [u8], at: usize, orders: u64, agree: u64) -> usize {
-    let i = put_decimal(out, at, orders);
-    let j = put_orders_word(out, i, orders);
-    let k = put_decimal(out, j, agree);
-    put_text(out, k, b" agree\n")
+fn put_total(page: &mut Page<'_>, orders: u64, agree: u64) {
+    page.decimal(orders);
+    put_orders_word(page, orders);
+    page.decimal(agree);
+    page.text(b" agree\n");
 }
 
 // All orders of the prefixes.
 fn put_all(
     rt: &(impl Print + Errors),
-    out: &mut [u8],
-    r: Report,
+    report: &mut Report<'_>,
     line: &[u8],
-    p: Prefixes,
-) -> Ordered {
+    p: &Prefixes,
+) -> Result<(), Odd> {
     let n = orders_of(p.count);
-    let mut s = Orders {
-        report: r,
+    let mut orders = Orders {
         agree: 0,
-        refused: false,
+        accepted: 0,
     };
     for i in 0..n {
-        s = turn(rt, out, line, p, i, s);
+        orders.add(put_told(&mut report.page, line, p, i));
+        report.flush_full(rt);
     }
-    let report = s.report;
-    let at = put_total(out, report.at, n, s.agree);
-    Ordered {
-        report: up_to(report, at),
-        good: s.agree == n && !s.refused,
-    }
-}
-
-// A line that is not put in order.
-fn not_ordered(r: Report, at: usize) -> Ordered {
-    Ordered {
-        report: up_to(r, at),
-        good: false,
+    put_total(&mut report.page, n, orders.agree);
+    if orders.accepted == n {
+        Ok(())
+    } else {
+        Err(Odd)
     }
 }
 
 // The orders of a line whose prefixes are found. With none there is one order, and more than five are not put in order.
 fn put_found(
     rt: &(impl Print + Errors),
-    out: &mut [u8],
-    r: Report,
+    report: &mut Report<'_>,
     line: &[u8],
-    p: Prefixes,
-) -> Ordered {
+    p: &Prefixes,
+) -> Result<(), Odd> {
     if p.count == 0 {
-        let at = put_text(out, r.at, b"the line has no prefix\n");
-        return put_all(rt, out, up_to(r, at), line, p);
+        report.page.text(b"the line has no prefix\n");
     }
-    if p.count > 5 {
-        let at = put_text(out, r.at, b"the line has more than five prefixes\n");
-        return not_ordered(r, at);
+    if p.count > MOST {
+        report.page.text(b"the line has more than five prefixes\n");
+        return Err(Odd);
     }
-    put_all(rt, out, r, line, p)
+    put_all(rt, report, line, p)
 }
 
 // That a line is too long.
-fn put_too_long(out: &mut [u8], at: usize) -> usize {
-    let i = put_text(out, at, b"the line is longer than ");
-    let j = put_decimal(out, i, LONGEST as u64);
-    put_text(out, j, b" bytes: no orders\n")
+fn put_too_long(page: &mut Page<'_>) {
+    page.text(b"the line is longer than ");
+    page.decimal(LONGEST as u64);
+    page.text(b" bytes: no orders\n");
 }
 
 // The heading over the orders of a line.
-fn put_heading(out: &mut [u8], at: usize, line: &[u8]) -> usize {
-    let i = put_text(out, at, b"orders of the prefixes of ");
-    let j = put_quoted(out, i, line);
-    put_byte(out, j, 0x0A)
-}
-
-// The orders of a line of UTF-8.
-fn put_of_text(rt: &(impl Print + Errors), out: &mut [u8], r: Report, line: &[u8]) -> Ordered {
-    let at = put_heading(out, r.at, line);
-    put_found(rt, out, up_to(r, at), line, prefixes_of(line))
+fn put_heading(page: &mut Page<'_>, line: &[u8]) {
+    page.text(b"orders of the prefixes of ");
+    page.quoted(line);
+    page.byte(b'\n');
 }
 
 // The orders of a line.
-pub fn put_orders(rt: &(impl Print + Errors), out: &mut [u8], r: Report, line: &[u8]) -> Ordered {
+pub fn put_orders(
+    rt: &(impl Print + Errors),
+    report: &mut Report<'_>,
+    line: &[u8],
+) -> Result<(), Odd> {
     if LONGEST < line.len() {
-        let at = put_too_long(out, r.at);
-        return not_ordered(r, at);
+        put_too_long(&mut report.page);
+        return Err(Odd);
     }
     if !is_utf8(line) {
-        let at = put_text(out, r.at, b"the line is not UTF-8: no orders\n");
-        return not_ordered(r, at);
+        report.page.text(b"the line is not UTF-8: no orders\n");
+        return Err(Odd);
     }
-    put_of_text(rt, out, r, line)
+    put_heading(&mut report.page, line);
+    put_found(rt, report, line, &prefixes_of(line))
 }

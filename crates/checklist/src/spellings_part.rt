@@ -1,51 +1,52 @@
 // Each spelling, in byte order, with the command that it leads to: the command's number and its name.
-use console::report::{Report, flush_full, up_to};
+use console::report::Report;
 use console::told::Errors;
 use replies::put_number;
 use scan::part::part;
 use spellings::{names, row_at, spellings, word_of};
-use texts::put::{put_byte, put_decimal, put_text};
-use words::words::{Named, lookup};
+use texts::page::Page;
+use words::words::lookup;
 
 // The command that a word leads to.
-fn put_command(out: &mut [u8], at: usize, n: u64) -> usize {
+fn put_command(page: &mut Page<'_>, n: u64) {
     let rows = names();
-    let i = put_number(out, at, n);
-    put_text(out, i, word_of(&rows, n))
+    put_number(page, n);
+    page.text(word_of(&rows, n));
 }
 
-fn put_named(out: &mut [u8], at: usize, m: Named) -> usize {
+fn put_named(page: &mut Page<'_>, m: Option<u64>) {
     match m {
-        Named::Command(n) => put_command(out, at, n),
-        Named::Unknown => put_text(out, at, b"no command"),
+        Some(n) => put_command(page, n),
+        None => page.text(b"no command"),
     }
 }
 
-fn put_spelling(out: &mut [u8], at: usize, word: &[u8]) -> usize {
-    let i = put_text(out, at, word);
-    let j = put_byte(out, i, 0x20);
-    let k = put_named(out, j, lookup(word));
-    put_byte(out, k, 0x0A)
+fn put_spelling(page: &mut Page<'_>, word: &[u8]) {
+    page.text(word);
+    page.byte(b' ');
+    put_named(page, lookup(word));
+    page.byte(b'\n');
 }
 
 // How many there are.
-fn put_total(out: &mut [u8], at: usize, count: u64) -> usize {
-    let i = put_decimal(out, at, count);
-    put_text(out, i, b" spellings\n")
+fn put_total(page: &mut Page<'_>, count: u64) {
+    page.decimal(count);
+    page.text(b" spellings\n");
 }
 
-// All spellings, and how many there are.
-pub fn put_spellings(rt: &(impl Print + Errors), out: &mut [u8], r: Report) -> Report {
+// All spellings, and how many there are. The step is a row of the table, so the loop is a `while`.
+pub fn put_spellings(rt: &(impl Print + Errors), report: &mut Report<'_>) {
     let rows = spellings();
-    let mut at = put_text(out, r.at, b"spellings and their commands\n");
+    report.page.text(b"spellings and their commands\n");
     let mut count: u64 = 0;
     let mut i: usize = 0;
+    // Each row says where the next one starts, so there is no count that a `for` could go through.
     while i < rows.len() {
         let row = row_at(&rows, i);
-        at = put_spelling(out, at, part(&rows, row.start, row.stop));
+        put_spelling(&mut report.page, part(&rows, row.start, row.stop));
         count = count.wrapping_add(1);
         i = row.stop;
     }
-    let end = put_total(out, at, count);
-    flush_full(rt, out, up_to(r, end))
+    put_total(&mut report.page, count);
+    report.flush_full(rt);
 }

@@ -1,13 +1,13 @@
 -- The commands by their numbers, in the order of default_cmds. Document 01, section Commands: "Prefixes are tab, horizontal, vertical,
 -- aboveleft and belowright"; refusal 11: "`!`, `&`, read, print and substitute".
 -- Assumes nothing.
-use Rattle.std.specs.Prelude.{cond, List, ℕ, eqb}
+use Rattle.std.specs.Prelude.{cond, List, ℕ, eqb, Err}
 use Rattle.limits.specs.declared.refusal.Refusal.{Refusal}
 use Rattle.actions.specs.declared.action.Axis.{Axis}
 use Rattle.actions.specs.declared.action.Side.{Side}
 use Rattle.context.specs.declared.context.CommandContext.{CommandContext}
 use Rattle.handlers.specs.Close.{close_of, only_of, quit_of, quitall_of, tabclose_of, tabonly_of, tabfirst_of, tablast_of}
-use Rattle.handlers.specs.declared.done.Done.{Done}
+use Rattle.handlers.specs.Done.{Done}
 use Rattle.reading.specs.declared.line.CommandDescription.{CommandDescription}
 use Rattle.resize.specs.Resize.{resize_of}
 use Rattle.tabs.specs.Tabs.{tabmove_of, tabnext_of, tabprev_of}
@@ -55,4 +55,4 @@ handle_of n s d x =
     (cond (eqb n 20) tabfirst_of
     (cond (eqb n 21) tablast_of
     (cond (eqb n 22) (write_of s d)
-    (cond (eqb n 23) (wall_of d) (Done.Refused Refusal.Unimplemented))))))))))))))))))
+    (cond (eqb n 23) (wall_of d) (Err Refusal.Unimplemented))))))))))))))))))

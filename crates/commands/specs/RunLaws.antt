@@ -3,7 +3,7 @@
 -- Assumes nothing.
 use Rattle.std.proofs.Math.Path.{◌≡◌, refl, sym, ap, subst}
 use Rattle.std.proofs.Common.{◌∙◌, inl, inr, length-drop}
-use Rattle.std.specs.Prelude.{Bool, ◌⊎◌}
+use Rattle.std.specs.Prelude.{Bool, ◌⊎◌, Ok, Err, Option, Some, None}
 use Rattle.std.proofs.Math.Bool.{true, false, cond}
 use mathlib.Core.List.{List, [], ◌∷◌}
 use Prim.Native.Nat.{ℕ, zero, suc, ◌+◌, ◌-◌, ◌≤◌, ◌<◌}
@@ -15,15 +15,12 @@ use borrow.Author.Tests.{eqb-false}
 use Rattle.scan.specs.Bytes.{is_space, is_word}
 use Rattle.scan.specs.Scan.{run_at, byte_at, part_of}
 use Rattle.scan.specs.PartLaws.{part_none, part_length, part_first}
-use Rattle.reading.specs.Line.{reading_of, argument_of, skip_byte}
+use Rattle.reading.specs.Line.{reading_of, argument_of, skip_byte, CommandRead}
 use Rattle.reading.specs.LineLaws.{starts, Parsed, parsed, places}
 use Rattle.reading.specs.declared.line.CommandDescription.{CommandDescription}
-use Rattle.reading.specs.declared.line.CommandRead.{CommandRead}
 use Rattle.context.specs.declared.context.CommandContext.{CommandContext}
-use Rattle.focus.specs.Focus.{focus_of}
-use Rattle.focus.specs.declared.focus.Focused.{Focused}
+use Rattle.focus.specs.Focus.{focus_of, Focused}
 use Rattle.words.specs.Words.{Row, lookup_in}
-use Rattle.words.specs.declared.words.Named.{Named}
 use Rattle.commands.specs.Handle.{role_of, IsPrefix}
 use Rattle.commands.specs.Run.{by_focus, by_role, by_name, by_reading, role_at, role_named, decide, change, one_more, trim, step, run, run_on}
 use Rattle.commands.specs.declared.next.Change.{Change}
@@ -138,8 +135,8 @@ pub record Argument (d : CommandDescription) (a e : ℕ) : Type 0 where
 
 by_focus_lem : (d : CommandDescription) (f : Focused) (ch : Change) (a e : ℕ) → by_focus d f ≡ Next.Again ch a e → Argument d a e
 unfolding by_focus
-by_focus_lem d (Focused.To f) ch a e h = record { begins = cc; stops = cc }
-by_focus_lem d (Focused.Refused n) ch a e h = let z : ◌≡◌ {A = ℕ} 0 1 = cc in absurd (omega arith)
+by_focus_lem d (Ok f) ch a e h = record { begins = cc; stops = cc }
+by_focus_lem d (Err n) ch a e h = let z : ◌≡◌ {A = ℕ} 0 1 = cc in absurd (omega arith)
 
 by_role_lem : (s : List ℕ) (d : CommandDescription) (n : ℕ) (r : Role) (ch : Change) (a e : ℕ) → by_role s d n r ≡ Next.Again ch a e → Argument d a e × IsPrefix r
 unfolding by_role
@@ -148,10 +145,10 @@ by_role_lem s d n (Role.Axis x) ch a e h = (record { begins = cc; stops = cc }, 
 by_role_lem s d n (Role.Side x) ch a e h = (record { begins = cc; stops = cc }, tt)
 by_role_lem s d n Role.Action ch a e h = let z : ◌≡◌ {A = ℕ} 0 1 = cc in absurd (omega arith)
 
-by_name_lem : (s : List ℕ) (d : CommandDescription) (m : Named) (ch : Change) (a e : ℕ) → by_name s d m ≡ Next.Again ch a e → Argument d a e × IsPrefix (role_at m)
+by_name_lem : (s : List ℕ) (d : CommandDescription) (m : Option ℕ) (ch : Change) (a e : ℕ) → by_name s d m ≡ Next.Again ch a e → Argument d a e × IsPrefix (role_at m)
 unfolding by_name
-by_name_lem s d (Named.Command n) ch a e h = by_role_lem s d n (role_of n) ch a e h
-by_name_lem s d Named.Unknown ch a e h = let z : ◌≡◌ {A = ℕ} 0 1 = cc in absurd (omega arith)
+by_name_lem s d (Some n) ch a e h = by_role_lem s d n (role_of n) ch a e h
+by_name_lem s d None ch a e h = let z : ◌≡◌ {A = ℕ} 0 1 = cc in absurd (omega arith)
 
 module _ (table : List Row) where
   pub role_named_lem : (w : List ℕ) → 0 < length w → role_named table w ≡ role_at (lookup_in table w)
@@ -172,9 +169,8 @@ module _ (table : List Row) where
   prefix_of s ch a e h = go (reading_of s) refl h
     where
       go : (r : CommandRead) → reading_of s ≡ r → by_reading table s r ≡ Next.Again ch a e → Prefix s a e
-      go CommandRead.Failed q x = let z : ◌≡◌ {A = ℕ} 0 1 = cc in absurd (omega arith)
-      go CommandRead.TooLarge q x = let z : ◌≡◌ {A = ℕ} 0 1 = cc in absurd (omega arith)
-      go (CommandRead.Command d) q x = by (eqb d.word d.end) refl x
+      go (Err why) q x = let z : ◌≡◌ {A = ℕ} 0 1 = cc in absurd (omega arith)
+      go (Ok d) q x = by (eqb d.word d.end) refl x
         where
           by : (b : Bool) → eqb d.word d.end ≡ b → cond b Next.Empty (by_name s d (lookup_in table (part_of s d.word d.end))) ≡ Next.Again ch a e → Prefix s a e
           by true y g = let z : ◌≡◌ {A = ℕ} 0 1 = cc in absurd (omega arith)

@@ -17,12 +17,12 @@ use Rattle.focus.specs.Sum.{add_same, apart, add_is, add_to, sum_from, sum_at, s
 use Rattle.focus.specs.Focus.{toward, placed, end_focus, range_focus, focus_of, at_least_one, sized, end_count, range_count}
 use Rattle.words.specs.Words.{aliases, names, shipped, same, lookup_in}
 use Rattle.context.specs.Context.{fresh}
-use Rattle.handlers.specs.Close.{forced, quitting, one_of, others_of, close_windows, close_tabs}
+use Rattle.handlers.specs.Close.{forced, quitting}
 use Rattle.tabs.specs.Tabs.{unargued, argued, either, tab_range, focusing, moving, next_by, tabnext_of, back_end, back, prev_by, tabprev_of, move_argument, move_range, tabmove_of}
 use Rattle.resize.specs.Resize.{exact_by, stepped, step_by, end_change, range_change, change_by, change_of, resize_at, resize_by, resize_of}
 use Rattle.windows.specs.One.{only_of, only_item}
 use Rattle.windows.specs.Open.{target_of, opened_by, opened, opening, viewing, sized_by, size_of, window_target, window_by, split_of, vsplit_of, switch_by, view_of, tab_at, tab_by, tabedit_of}
-use Rattle.windows.specs.Write.{writing, write_as, write_by, write_of, wall_of}
+use Rattle.windows.specs.Write.{writing, write_by, write_of, wall_of}
 use Rattle.commands.specs.Handle.{role_of, handle_of}
 use Rattle.commands.specs.Run.{by_focus, by_role, by_name, by_reading, decide, change, Out, out_no, out_bytes, Answer, once, done_out, trim, step, run, run_on, line_from}
 use Rattle.commands.specs.Line.{turned, line}
@@ -51,7 +51,7 @@ says a x = eqb (out_no a.out) x.refusal && (eqb a.readings x.readings && same (o
 
 -- what a line answers in a session as shipped, with a store of so many bytes
 typed : List ℕ → ℕ → Answer
-unfolding is_space is_colon is_digit is_word is_mark is_text is_plain is_quoted run_from run_at value_from digits_from digits_at is_utf8 utf8_at utf8_from utf8_step followers lowest highest encode named is_sign escaped_atom mark_atom sign_atom number_or atom_at offsets_from offsets_at with_offsets after_atom ending_at double after_first range_at whole_of whole_range quoted_escape plain_escape escape_of own stop_at text_end_from text_end_at bytes_from bytes_at item_of item_at text_at also items_from items_at items_of lone skip_byte word_at rest_at after_word after_range start_of reading_of check_for checked_for line_room add_same apart add_is add_to sum_from sum_at sum_of moved toward placed end_focus range_focus focus_of at_least_one sized end_count range_count aliases names shipped same lookup_in forced quitting one_of others_of close_windows close_tabs unargued argued either tab_range focusing moving next_by tabnext_of back_end back prev_by tabprev_of move_argument move_range tabmove_of only_of only_item target_of opened_by opened opening viewing sized_by size_of window_target window_by split_of vsplit_of switch_by view_of tab_at tab_by tabedit_of exact_by stepped step_by end_change range_change change_by change_of resize_at resize_by resize_of writing write_as write_by write_of wall_of role_of handle_of by_focus by_role by_name by_reading decide change out_no out_bytes done_out trim step run run_on line_from line
+unfolding is_space is_colon is_digit is_word is_mark is_text is_plain is_quoted run_from run_at value_from digits_from digits_at is_utf8 utf8_at utf8_from utf8_step followers lowest highest encode named is_sign escaped_atom mark_atom sign_atom number_or atom_at offsets_from offsets_at with_offsets after_atom ending_at double after_first range_at whole_of whole_range quoted_escape plain_escape escape_of own stop_at text_end_from text_end_at bytes_from bytes_at item_of item_at text_at also items_from items_at items_of lone skip_byte word_at rest_at after_word after_range start_of reading_of check_for checked_for line_room add_same apart add_is add_to sum_from sum_at sum_of moved toward placed end_focus range_focus focus_of at_least_one sized end_count range_count aliases names shipped same lookup_in forced quitting unargued argued either tab_range focusing moving next_by tabnext_of back_end back prev_by tabprev_of move_argument move_range tabmove_of only_of only_item target_of opened_by opened opening viewing sized_by size_of window_target window_by split_of vsplit_of switch_by view_of tab_at tab_by tabedit_of exact_by stepped step_by end_change range_change change_by change_of resize_at resize_by resize_of writing write_by write_of wall_of role_of handle_of by_focus by_role by_name by_reading decide change out_no out_bytes done_out trim step run run_on line_from line
 typed l size = line shipped fresh l size
 
 agrees : Sample → Bool

@@ -1,29 +1,26 @@
 -- Spaces before a line change nothing: the run of the line without them is the run of the line, which passes them by itself.
 -- Document 01, section Reading: "One reading takes: spaces; any colons; spaces; a range or none; a word; .."
 -- Assumes nothing.
-use Rattle.std.specs.Prelude.{◌≡◌, List, ℕ, ◌≤◌, eqb, drop}
+use Rattle.std.specs.Prelude.{◌≡◌, List, ℕ, ◌≤◌, eqb, drop, Ok, Err, Option, Some, None}
 use Rattle.std.proofs.Math.Path.{refl}
 use Rattle.std.proofs.Common.{◌∙◌, sym, ap, arith}
 use Rattle.scan.specs.Bytes.{is_space}
 use Rattle.scan.specs.Scan.{run_at, part_of}
 use Rattle.scan.specs.ShiftLaws.{cond_shift, eqb_shift, part_shift}
-use Rattle.reading.specs.Line.{reading_of}
+use Rattle.reading.specs.Line.{reading_of, CommandRead}
 use Rattle.reading.specs.Shift.{shift_command, shift_reading}
 use Rattle.reading.specs.ShiftLaws.{argument_shift, reading_shift}
 use Rattle.reading.specs.declared.line.CommandDescription.{CommandDescription}
-use Rattle.reading.specs.declared.line.CommandRead.{CommandRead}
 use Rattle.context.specs.declared.context.CommandContext.{CommandContext}
-use Rattle.focus.specs.Focus.{focus_of}
+use Rattle.focus.specs.Focus.{focus_of, Focused}
 use Rattle.focus.specs.ShiftLaws.{focus_shift}
-use Rattle.focus.specs.declared.focus.Focused.{Focused}
 use Rattle.handlers.specs.ShiftLaws.{close_shift, only_shift, quit_shift, tabclose_shift, tabonly_shift}
-use Rattle.handlers.specs.declared.done.Done.{Done}
+use Rattle.handlers.specs.Done.{Done}
 use Rattle.resize.specs.ShiftLaws.{resize_shift}
 use Rattle.tabs.specs.ShiftLaws.{tabmove_shift, tabnext_shift, tabprev_shift}
 use Rattle.windows.specs.ShiftLaws.{split_shift, vsplit_shift, view_shift, tabedit_shift, write_shift}
 use Rattle.windows.specs.Write.{wall_of}
 use Rattle.words.specs.Words.{Row, lookup_in}
-use Rattle.words.specs.declared.words.Named.{Named}
 use Rattle.commands.specs.Handle.{role_of, handle_of}
 use Rattle.commands.specs.Run.{by_focus, by_role, by_name, by_reading, decide, Answer, done_out, trim, step, run_on, line_from}
 use Rattle.commands.specs.RunLaws.{run_is}
@@ -56,14 +53,14 @@ module _ (k : ℕ) (l : List ℕ) where
   -- and stands for the same action
   done_shift : (d : CommandDescription) (r : Done) → done_out l (shift_command k d) r ≡ done_out (drop k l) d r
   unfolding done_out
-  done_shift d (Done.Act a) = rw (argument_shift k l d)
-  done_shift d (Done.Refused e) = refl
+  done_shift d (Ok a) = rw (argument_shift k l d)
+  done_shift d (Err e) = refl
 
   -- a reading leads to the same
   focus_next : (d : CommandDescription) (f : Focused) → by_focus (shift_command k d) f ≡ shift_next k (by_focus d f)
   unfolding by_focus shift_next
-  focus_next d (Focused.To f) = refl
-  focus_next d (Focused.Refused e) = refl
+  focus_next d (Ok f) = refl
+  focus_next d (Err e) = refl
 
   role_next : (d : CommandDescription) (n : ℕ) (r : Role) → by_role l (shift_command k d) n r ≡ shift_next k (by_role (drop k l) d n r)
   unfolding by_role shift_next
@@ -72,19 +69,18 @@ module _ (k : ℕ) (l : List ℕ) where
   role_next d n (Role.Side a) = refl
   role_next d n Role.Action = refl
 
-  name_next : (d : CommandDescription) (m : Named) → by_name l (shift_command k d) m ≡ shift_next k (by_name (drop k l) d m)
+  name_next : (d : CommandDescription) (m : Option ℕ) → by_name l (shift_command k d) m ≡ shift_next k (by_name (drop k l) d m)
   unfolding by_name shift_next
-  name_next d (Named.Command n) = role_next d n (role_of n)
-  name_next d Named.Unknown = refl
+  name_next d (Some n) = role_next d n (role_of n)
+  name_next d None = refl
 
   module _ (table : List Row) where
     reading_next : (r : CommandRead) → by_reading table l (shift_reading k r) ≡ shift_next k (by_reading table (drop k l) r)
     unfolding by_reading shift_reading shift_next
-    reading_next (CommandRead.Command d) =
+    reading_next (Ok d) =
         rw (eqb_shift k d.word d.end, part_shift k l d.word d.end)
         (cond_shift (shift_next k) (eqb d.word d.end) refl (name_next d (lookup_in table (part_of (drop k l) d.word d.end))))
-    reading_next CommandRead.Failed = refl
-    reading_next CommandRead.TooLarge = refl
+    reading_next (Err why) = refl
 
     -- the first reading
     decide_shift : k ≤ run_at is_space l 0 → decide table l ≡ shift_next k (decide table (drop k l))

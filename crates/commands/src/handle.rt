@@ -28,6 +28,7 @@ fn split_context(n: u64, x: CommandContext) -> CommandContext
 
 // What the command `n` does with a reading `d` of the text `s`; `!`, `&`, read, print and substitute, and numbers that no command has, are
 // refused by 11.
+// By a `match`: a table of functions would call each through a pointer, and none would be put in here.
 pub fn handle(n: u64, s: &[u8], d: CommandDescription, x: CommandContext) -> Done
     ensures { result ≡ handle_of n s.now d x }
 {
@@ -49,6 +50,6 @@ pub fn handle(n: u64, s: &[u8], d: CommandDescription, x: CommandContext) -> Don
         21 => vim_cmd_tablast(),
         22 => vim_cmd_write(s, d),
         23 => vim_cmd_write_all(d),
-        _ => Done::Refused(Refusal::Unimplemented),
+        _ => Err(Refusal::Unimplemented),
     }
 }

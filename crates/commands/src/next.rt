@@ -8,7 +8,6 @@ use context::context::CommandContext;
 use focus::focus::{Focused, window_range_target};
 use limits::refusal::Refusal;
 use reading::line::CommandDescription;
-use words::words::Named;
 
 // The role of a command: a prefix of one of three kinds, or an action of its own.
 #[derive(Clone, Copy)]
@@ -37,16 +36,20 @@ pub enum Next {
     Again(Change, usize, usize),
 }
 
-pub fn role_of(n: u64) -> Role
-    ensures { result ≡ role_of n }
-{
-    match n {
-        13 => Role::Tab,
-        24 => Role::Axis(Axis::Horizontal),
-        25 => Role::Axis(Axis::Vertical),
-        26 => Role::Side(Side::Previous),
-        27 => Role::Side(Side::Next),
-        _ => Role::Action,
+// A command by its number.
+impl From<u64> for Role {
+    ghost from_gives = { λ n r. r ≡ role_of n };
+
+    #[tactic(auto, unfolding(crate::specs::Handle::role_of))]
+    fn from(n: u64) -> Role {
+        match n {
+            13 => Role::Tab,
+            24 => Role::Axis(Axis::Horizontal),
+            25 => Role::Axis(Axis::Vertical),
+            26 => Role::Side(Side::Previous),
+            27 => Role::Side(Side::Next),
+            _ => Role::Action,
+        }
     }
 }
 
@@ -56,8 +59,8 @@ fn by_focus(d: CommandDescription, f: Focused) -> Next
     let a = d.argument;
     let e = d.stop;
     match f {
-        Focused::To(x) => Next::Again(Change::Tab(x), a, e),
-        Focused::Refused(x) => Next::Refused(x),
+        Ok(x) => Next::Again(Change::Tab(x), a, e),
+        Err(x) => Next::Refused(x),
     }
 }
 
@@ -78,12 +81,12 @@ fn by_role(s: &[u8], d: CommandDescription, n: u64, r: Role) -> Next
 }
 
 // What a reading leads to whose word was looked up.
-pub fn by_name(s: &[u8], d: CommandDescription, m: Named) -> Next
+pub fn by_name(s: &[u8], d: CommandDescription, m: Option<u64>) -> Next
     ensures { result ≡ by_name s.now d m }
 {
     match m {
-        Named::Command(n) => by_role(s, d, n, role_of(n)),
-        Named::Unknown => {
+        Some(n) => by_role(s, d, n, Role::from(n)),
+        None => {
             let a = d.word;
             let e = d.end;
             Next::Unknown(a, e)

@@ -1,13 +1,14 @@
 // The arguments of a program.
+use scan::part::part;
 use std::env::FillError;
 use std::rt::Env;
 
-// An argument. One that is not there is empty, and one that does not fit is as long as the buffer.
-pub fn argument(rt: &impl Env, i: usize, buffer: &mut [u8]) -> usize {
-    match rt.arg(i, buffer) {
-        Ok(n) => n,
-        Err(FillError::TooLong) => buffer.len(),
-        Err(FillError::NotPresent) => 0,
+// An argument, put at the start of a buffer. One that is not there is empty, and one that does not fit is as long as the buffer.
+pub fn argument<'b>(rt: &impl Env, i: usize, into: &'b mut [u8]) -> &'b [u8] {
+    match rt.arg(i, into) {
+        Ok(n) => part(into, 0, n),
+        Err(FillError::TooLong) => into,
+        Err(FillError::NotPresent) => &[],
     }
 }
 

@@ -1,7 +1,7 @@
 // The programs by name, and their version.
-ghost use Rattle.texts.specs.Behind.{Behind};
+ghost use Rattle.texts.specs.Written.{Adds};
 
-use texts::put::{put_byte, put_text};
+use texts::page::Page;
 
 #[derive(Clone, Copy)]
 pub enum Program {
@@ -10,29 +10,29 @@ pub enum Program {
     Checklist,
 }
 
-pub fn put_program(out: &mut [u8], at: usize, p: Program) -> usize
-    ensures { Behind out.old out.new at result }
+pub fn put_program(page: &mut Page<'_>, p: Program)
+    ensures { Adds page.old page.new }
 {
     match p {
-        Program::Exline => put_text(out, at, b"exline"),
-        Program::Exsheet => put_text(out, at, b"exsheet"),
-        Program::Checklist => put_text(out, at, b"checklist"),
+        Program::Exline => page.text(b"exline"),
+        Program::Exsheet => page.text(b"exsheet"),
+        Program::Checklist => page.text(b"checklist"),
     }
 }
 
 // The version that the file VERSION has.
-pub fn put_version(out: &mut [u8], at: usize) -> usize
-    ensures { Behind out.old out.new at result }
+pub fn put_version(page: &mut Page<'_>)
+    ensures { Adds page.old page.new }
 {
-    put_text(out, at, b"1.0.0")
+    page.text(b"1.0.0");
 }
 
 // The first line of a report: who made it.
-pub fn put_maker(out: &mut [u8], at: usize, p: Program) -> usize
-    ensures { Behind out.old out.new at result }
+pub fn put_maker(page: &mut Page<'_>, p: Program)
+    ensures { Adds page.old page.new }
 {
-    let i = put_program(out, at, p);
-    let j = put_byte(out, i, 0x20);
-    let k = put_version(out, j);
-    put_byte(out, k, 0x0A)
+    put_program(page, p);
+    page.byte(b' ');
+    put_version(page);
+    page.byte(b'\n');
 }

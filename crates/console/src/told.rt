@@ -1,5 +1,5 @@
 // What failed, told on standard error, and the verdict.
-ghost use Rattle.texts.specs.Behind.{Behind};
+ghost use Rattle.texts.specs.Written.{Adds};
 
 use super::program::{Program, put_program};
 use scan::part::part;
@@ -8,8 +8,7 @@ use std::io;
 use std::io::{Cursor, Write};
 use std::rt::{Env, Files};
 use std::str::from_utf8;
-use texts::put::{put_byte, put_text};
-use texts::shown::put_shown;
+use texts::page::Page;
 
 // All was done, and nothing was refused.
 pub const DONE: u64 = 0;
@@ -22,6 +21,10 @@ pub const FAILED: u64 = 2;
 
 // The environment variable that names the file where the script that starts the program waits for its verdict.
 const VERDICT: &str = "PAGYOLINT_VERDICT";
+
+// Something could not be done, which was told.
+#[derive(Clone, Copy, PartialEq, Eq)]
+pub struct Failure;
 
 // Where messages go: bytes, which need not be text.
 pub trait Errors {
@@ -47,39 +50,43 @@ fn words_end(text: &[u8], e: io::Error) -> usize {
 }
 
 // Why a call failed.
-pub fn put_reason(out: &mut [u8], at: usize, e: io::Error) -> usize
-    ensures { Behind out.old out.new at result }
+pub fn put_reason(page: &mut Page<'_>, e: io::Error)
+    ensures { Adds page.old page.new }
 {
     let mut text = Cursor::new([0u8; 256]);
     let _ = write!(text, "{e}");
     let all = part(text.get_ref(), 0, text.position() as usize);
-    put_text(out, at, part(all, 0, words_end(all, e)))
+    page.text(part(all, 0, words_end(all, e)));
 }
 
 // The program, and what the message is about.
-fn put_about(out: &mut [u8], p: Program, what: &[u8]) -> usize {
-    let i = put_program(out, 0, p);
-    let j = put_text(out, i, b": ");
-    put_shown(out, j, what)
+fn put_about(page: &mut Page<'_>, p: Program, what: &[u8])
+    ensures { Adds page.old page.new }
+{
+    put_program(page, p);
+    page.text(b": ");
+    page.shown(what);
 }
 
 // That a call failed, and why.
 pub fn tell(rt: &impl Errors, p: Program, what: &[u8], e: io::Error) {
-    let mut text = [0u8; 65536];
-    let i = put_about(&mut text, p, what);
-    let j = put_text(&mut text, i, b": ");
-    let k = put_reason(&mut text, j, e);
-    let l = put_byte(&mut text, k, 0x0A);
-    let _ = rt.write_error(part(&text, 0, l));
+    let mut out = [0u8; 65536];
+    let mut page = Page::new(&mut out);
+    put_about(&mut page, p, what);
+    page.text(b": ");
+    put_reason(&mut page, e);
+    page.byte(b'\n');
+    let _ = rt.write_error(page.written());
 }
 
 // What is wrong, where no call failed.
 pub fn say(rt: &impl Errors, p: Program, what: &[u8], wrong: &[u8]) {
-    let mut text = [0u8; 65536];
-    let i = put_about(&mut text, p, what);
-    let j = put_text(&mut text, i, wrong);
-    let k = put_byte(&mut text, j, 0x0A);
-    let _ = rt.write_error(part(&text, 0, k));
+    let mut out = [0u8; 65536];
+    let mut page = Page::new(&mut out);
+    put_about(&mut page, p, what);
+    page.text(wrong);
+    page.byte(b'\n');
+    let _ = rt.write_error(page.written());
 }
 
 // Hands the verdict over. Where nobody waits for it there is nobody to tell.

@@ -7,39 +7,13 @@ use actions::action::{
 };
 use actions::flags::OpenFlags;
 
-// The tab that a tab prefix set.
-#[derive(Clone, Copy)]
-pub enum TabSet {
-    Unset,
-    To(FocusChange),
-}
-
-// The axis that an axis prefix set.
-#[derive(Clone, Copy)]
-pub enum AxisSet {
-    Unset,
-    To(Axis),
-}
-
-// The side that a side prefix set.
-#[derive(Clone, Copy)]
-pub enum SideSet {
-    Unset,
-    To(Side),
-}
-
-// The size asked for by a range, if there is one.
-#[derive(Clone, Copy)]
-pub enum Size {
-    Absent,
-    Given(Count),
-}
-
+// What a tab prefix, an axis prefix and a side prefix set, if there was one; what stands for an axis and a side that none set; and the flags
+// with which something is opened.
 #[derive(Clone, Copy)]
 pub struct CommandContext {
-    pub tab: TabSet,
-    pub axis: AxisSet,
-    pub rel: SideSet,
+    pub tab: Option<FocusChange>,
+    pub axis: Option<Axis>,
+    pub rel: Option<Side>,
     pub axis_default: Axis,
     pub rel_default: Side,
     pub open_flags: OpenFlags,
@@ -51,9 +25,9 @@ impl CommandContext {
         ensures { result ≡ fresh_one }
     {
         CommandContext {
-            tab: TabSet::Unset,
-            axis: AxisSet::Unset,
-            rel: SideSet::Unset,
+            tab: None,
+            axis: None,
+            rel: None,
             axis_default: Axis::Horizontal,
             rel_default: Side::Previous,
             open_flags: OpenFlags::NONE,
@@ -64,16 +38,17 @@ impl CommandContext {
         ensures { result ≡ set_tab f self }
     {
         CommandContext {
-            tab: TabSet::To(f),
+            tab: Some(f),
             ..self
         }
     }
 
+    // This and the next two set a field each, of a type of its own: one function could not name the field.
     pub fn with_axis(self, a: Axis) -> CommandContext
         ensures { result ≡ set_axis a self }
     {
         CommandContext {
-            axis: AxisSet::To(a),
+            axis: Some(a),
             ..self
         }
     }
@@ -82,7 +57,7 @@ impl CommandContext {
         ensures { result ≡ set_side d self }
     {
         CommandContext {
-            rel: SideSet::To(d),
+            rel: Some(d),
             ..self
         }
     }
@@ -100,22 +75,14 @@ impl CommandContext {
     pub fn axis(self) -> Axis
         ensures { result ≡ axis_of self }
     {
-        let set = self.axis;
-        match set {
-            AxisSet::To(a) => a,
-            AxisSet::Unset => self.axis_default,
-        }
+        self.axis.unwrap_or(self.axis_default)
     }
 
     // The side that was set, or else the default.
     pub fn relation(self) -> Side
         ensures { result ≡ side_of self }
     {
-        let set = self.rel;
-        match set {
-            SideSet::To(d) => d,
-            SideSet::Unset => self.rel_default,
-        }
+        self.rel.unwrap_or(self.rel_default)
     }
 
     pub fn open(self, target: OpenTarget, count: Count) -> Action
@@ -136,34 +103,21 @@ impl CommandContext {
     pub fn switch(self, target: OpenTarget) -> Action
         ensures { result ≡ switch_in self target }
     {
-        let tab = self.tab;
-        let axis = self.axis;
-        let rel = self.rel;
-        let flags = self.open_flags;
-        match tab {
-            TabSet::To(f) => Action::Tab(TabAction::Open(target, flags, f)),
-            TabSet::Unset => match axis {
-                AxisSet::To(_) => self.split(target, Count::Exact(1)),
-                AxisSet::Unset => match rel {
-                    SideSet::To(_) => self.split(target, Count::Exact(1)),
-                    SideSet::Unset => Action::Window(WindowAction::Switch(target, flags)),
-                },
-            },
+        match (self.tab, self.axis, self.rel) {
+            (Some(f), _, _) => Action::Tab(TabAction::Open(target, self.open_flags, f)),
+            (None, None, None) => Action::Window(WindowAction::Switch(target, self.open_flags)),
+            _ => self.split(target, Count::Exact(1)),
         }
     }
 
     // Opens a window: in a tab after a tab prefix, or else with its size, or else by a split.
-    pub fn window(self, target: OpenTarget, size: Size) -> Action
+    pub fn window(self, target: OpenTarget, size: Option<Count>) -> Action
         ensures { result ≡ window_in self target size }
     {
-        let tab = self.tab;
-        let flags = self.open_flags;
-        match tab {
-            TabSet::To(f) => Action::Tab(TabAction::Open(target, flags, f)),
-            TabSet::Unset => match size {
-                Size::Given(n) => self.open(target, n),
-                Size::Absent => self.split(target, Count::Exact(1)),
-            },
+        match (self.tab, size) {
+            (Some(f), _) => Action::Tab(TabAction::Open(target, self.open_flags, f)),
+            (None, Some(n)) => self.open(target, n),
+            (None, None) => self.split(target, Count::Exact(1)),
         }
     }
 }

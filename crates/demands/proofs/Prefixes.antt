@@ -1,7 +1,7 @@
 -- The claim about a list of prefixes, proved: a prefix before a space and another text is read as it is alone, sets what it sets alone,
 -- and its argument is that text; so the list goes by one prefix after the other.
 -- Assumes nothing.
-use Rattle.std.specs.Prelude.{◌≡◌, drop}
+use Rattle.std.specs.Prelude.{◌≡◌, drop, Ok, Err, Option, Some, None}
 use Rattle.std.proofs.Math.Path.{refl, ap, subst}
 use Rattle.std.proofs.Common.{sym, ◌∙◌, length-append, length-drop}
 use mathlib.Core.List.{List, [], ◌∷◌, ◌++◌, append_assoc}
@@ -17,19 +17,15 @@ use Rattle.scan.specs.Scan.{run_at, part_of}
 use Rattle.utf8.specs.Utf8Laws.{utf8_behind}
 use Rattle.scan.specs.RunLaws.{run_at_inside}
 use Rattle.ranges.specs.Stable.{stops_space}
-use Rattle.reading.specs.Alone.{check_for, by_check, checked_for, line_room}
+use Rattle.reading.specs.Alone.{check_for, by_check, checked_for, line_room, Checked}
 use Rattle.reading.specs.Checks.{check_for_good, check_for_passes, line_room_behind}
 use Rattle.reading.specs.Behind.{NoNewline, no_newline_append, no_newline_drop, behind, reading_behind}
 use Rattle.reading.specs.Line.{reading_of, start_of}
 use Rattle.reading.specs.LineLaws.{Parsed, parsed, places}
-use Rattle.reading.specs.declared.alone.Checked.{Checked}
 use Rattle.reading.specs.declared.line.CommandDescription.{CommandDescription}
-use Rattle.reading.specs.declared.line.CommandRead.{CommandRead}
-use Rattle.focus.specs.Focus.{focus_of}
+use Rattle.focus.specs.Focus.{focus_of, Focused}
 use Rattle.focus.specs.FocusStop.{focus_stop}
-use Rattle.focus.specs.declared.focus.Focused.{Focused}
 use Rattle.words.specs.Words.{Row, lookup_in}
-use Rattle.words.specs.declared.words.Named.{Named}
 use Rattle.context.specs.Context.{fresh}
 use Rattle.context.specs.declared.context.CommandContext.{CommandContext}
 use Rattle.commands.specs.Handle.{IsPrefix, role_of}
@@ -56,8 +52,8 @@ passes_last (p ∷ ps) t store h = passes_last ps t store (passes_behind p (join
 
 -- a line that is accepted passed them
 passed_accepted : (r : Answer) (k : Checked) → Accepted (by_check turned r k).out → Accepted r.out
-passed_accepted r Checked.Good h = h
-passed_accepted r (Checked.Bad x) h = absurd h
+passed_accepted r (Ok tt) h = h
+passed_accepted r (Err x) h = absurd h
 
 -- spaces ------------------------------------------------------------------------------------------------------------------------------
 
@@ -108,8 +104,8 @@ record Leads (v : Next) (d : CommandDescription) (f : CommandContext → Command
 module _ (table : List Row) (p t : List ℕ) (d : CommandDescription) (h : Parsed p d) where
   by_focus_lem : (f : Focused) → Accepted (step table (run_on table) fresh p (by_focus d f)).out → Leads (by_focus (behind p t d) f) (behind p t d) (sets_tab f)
   unfolding by_focus step sets_tab change
-  by_focus_lem (Focused.To f) k = record { its_change = Change.Tab f; again = refl; changes = λ x. refl }
-  by_focus_lem (Focused.Refused e) k = absurd k
+  by_focus_lem (Ok f) k = record { its_change = Change.Tab f; again = refl; changes = λ x. refl }
+  by_focus_lem (Err e) k = absurd k
 
   by_role_lem : (n : ℕ) (r : Role) → IsPrefix r → Accepted (step table (run_on table) fresh p (by_role p d n r)).out →
       Leads (by_role (p ++ 32 ∷ t) (behind p t d) n r) (behind p t d) (sets_by p d.range r)
@@ -119,14 +115,14 @@ module _ (table : List Row) (p t : List ℕ) (d : CommandDescription) (h : Parse
   by_role_lem n (Role.Side a) i k = record { its_change = Change.Side a; again = refl; changes = λ x. refl }
   by_role_lem n Role.Action i k = absurd i
 
-  by_name_lem : (m : Named) → IsPrefix (role_at m) → Accepted (step table (run_on table) fresh p (by_name p d m)).out →
+  by_name_lem : (m : Option ℕ) → IsPrefix (role_at m) → Accepted (step table (run_on table) fresh p (by_name p d m)).out →
       Leads (by_name (p ++ 32 ∷ t) (behind p t d) m) (behind p t d) (sets_by p d.range (role_at m))
   unfolding by_name
-  by_name_lem (Named.Command n) i k = by_role_lem n (role_of n) i k
-  by_name_lem Named.Unknown i k = absurd i
+  by_name_lem (Some n) i k = by_role_lem n (role_of n) i k
+  by_name_lem None i k = absurd i
 
 module _ (table : List Row) where
-  decide_command : (s : List ℕ) (d : CommandDescription) → reading_of s ≡ CommandRead.Command d → d.word < d.end →
+  decide_command : (s : List ℕ) (d : CommandDescription) → reading_of s ≡ Ok d → d.word < d.end →
       decide table s ≡ by_name s d (lookup_in table (part_of s d.word d.end))
   unfolding decide by_reading
   decide_command s d e h = rw (e, ne_eqb d.word d.end (λ q. omega arith))

@@ -1,7 +1,7 @@
 -- The computed length is that of the shortest word that names a prefix; as shipped it is 3; and with the aliases of any session `!`
 -- names no prefix. Document 01, "For demand 3": "a word names a prefix if lookup in that session leads it to one".
 -- Assumes nothing.
-use Rattle.std.specs.Prelude.{◌≡◌, Bool, true, false, ◌⊎◌, ℕ, ◌≤◌, min, leb, length}
+use Rattle.std.specs.Prelude.{◌≡◌, Bool, true, false, ◌⊎◌, ℕ, ◌≤◌, min, leb, length, Some}
 use Rattle.std.proofs.Math.Path.{refl, subst}
 use Rattle.std.proofs.Common.{sym, ◌∙◌, ap, inl, inr, arith, leb-true, leb-false}
 use Rattle.std.proofs.lemmas.Bool.{false≢true}
@@ -11,7 +11,6 @@ use Rattle.scan.specs.Bytes.{is_word}
 use Rattle.scan.specs.Scan.{run_at, run_from}
 use Rattle.words.specs.Words.{Row, aliases, names, shipped, table_with, same, lookup_in}
 use Rattle.words.specs.LookupLaws.{same_eq, lookup_past}
-use Rattle.words.specs.declared.words.Named.{Named}
 use Rattle.tables.specs.Table.{is_name}
 use Rattle.commands.specs.Handle.{role_of, IsPrefix}
 use Rattle.commands.specs.Run.{role_at, role_named}
@@ -160,7 +159,7 @@ bang_lookup [] h = refl
 bang_lookup (r ∷ rs) h = lookup_past r (table_with rs) (0x21 ∷ []) (alias_bang r.word h.0) ∙ bang_lookup rs h.1
 
 -- and the shipped `!` is none
-shipped_bang : lookup_in shipped (0x21 ∷ []) ≡ Named.Command 0
+shipped_bang : lookup_in shipped (0x21 ∷ []) ≡ Some 0
 unfolding shipped aliases names lookup_in same
 shipped_bang = refl
 

@@ -2,28 +2,26 @@
 -- before a last text, as "a single claim about the list, not one for each prefix", and how many readings a line can take.
 -- These are the statements; proofs/Demand3.antt has the theorems, for every session.
 -- Assumes nothing.
-use Rattle.std.specs.Prelude.{◌≡◌, true, List, [], ◌∷◌, ◌++◌, ℕ, ◌+◌, ◌≤◌, ◌/◌, length}
+use Rattle.std.specs.Prelude.{◌≡◌, true, List, [], ◌∷◌, ◌++◌, ℕ, ◌+◌, ◌≤◌, ◌/◌, length, Ok, Err, Option, Some, None}
 use Rattle.limits.specs.Limits.{line_limit}
 use Rattle.scan.specs.Scan.{part_of}
 use Rattle.utf8.specs.Utf8.{is_utf8}
-use Rattle.ranges.specs.declared.range.RangeRead.{RangeRead}
+use Rattle.ranges.specs.Range.{RangeRead}
 use Rattle.reading.specs.Alone.{line_room}
-use Rattle.reading.specs.Line.{reading_of}
+use Rattle.reading.specs.Line.{reading_of, CommandRead}
 use Rattle.reading.specs.Behind.{NoNewline}
 use Rattle.reading.specs.declared.line.CommandDescription.{CommandDescription}
-use Rattle.reading.specs.declared.line.CommandRead.{CommandRead}
-use Rattle.focus.specs.Focus.{focus_of}
-use Rattle.focus.specs.declared.focus.Focused.{Focused}
+use Rattle.focus.specs.Focus.{focus_of, Focused}
 use Rattle.words.specs.Words.{Row}
 use Rattle.context.specs.Context.{fresh, set_tab, set_axis, set_side}
-use Rattle.context.specs.declared.context.AxisSet.{AxisSet}
 use Rattle.context.specs.declared.context.CommandContext.{CommandContext}
-use Rattle.context.specs.declared.context.SideSet.{SideSet}
-use Rattle.context.specs.declared.context.TabSet.{TabSet}
 use Rattle.commands.specs.Handle.{IsPrefix}
 use Rattle.commands.specs.Run.{Out, Answer, role_named, trim}
 use Rattle.commands.specs.Line.{line, store_after}
 use Rattle.commands.specs.declared.next.Role.{Role}
+use Rattle.actions.specs.declared.action.FocusChange.{FocusChange}
+use Rattle.actions.specs.declared.action.Axis.{Axis}
+use Rattle.actions.specs.declared.action.Side.{Side}
 
 -- lines -----------------------------------------------------------------------------------------------------------------------------
 
@@ -49,8 +47,8 @@ Accepted (Out.unknown w) = ⊥
 
 -- the tab, where tab's handler accepts its range
 unfoldable pub sets_tab : Focused → CommandContext → CommandContext
-sets_tab (Focused.To f) x = set_tab f x
-sets_tab (Focused.Refused e) x = x
+sets_tab (Ok f) x = set_tab f x
+sets_tab (Err e) x = x
 
 -- "tab sets the tab from its own range as its handler does, an axis prefix the axis, a side prefix the side"
 unfoldable pub sets_by : List ℕ → RangeRead → Role → CommandContext → CommandContext
@@ -59,18 +57,10 @@ sets_by s g (Role.Axis a) x = set_axis a x
 sets_by s g (Role.Side d) x = set_side d x
 sets_by s g Role.Action x = x
 
--- what one of them set, or else what another did
-abbrev pub or_tab : TabSet → TabSet → TabSet
-or_tab (TabSet.To f) b = TabSet.To f
-or_tab TabSet.Unset b = b
-
-abbrev pub or_axis : AxisSet → AxisSet → AxisSet
-or_axis (AxisSet.To a) b = AxisSet.To a
-or_axis AxisSet.Unset b = b
-
-abbrev pub or_side : SideSet → SideSet → SideSet
-or_side (SideSet.To d) b = SideSet.To d
-or_side SideSet.Unset b = b
+-- what one of them set, or else what another did: of a tab, an axis or a side
+abbrev pub or_set : {A : Type 0} → Option A → Option A → Option A
+or_set (Some a) b = Some a
+or_set None b = b
 
 module _ (table : List Row) where
   -- "a word names a prefix if lookup in that session leads it to one"
@@ -85,7 +75,7 @@ module _ (table : List Row) where
   -- word names a prefix; and it is accepted when "typed alone", that is "as a line of its own, on that session and store"
   pub record Alone (store p : List ℕ) : Type 0 where
     pub its : CommandDescription
-    pub reads : reading_of (trim p) ≡ CommandRead.Command its
+    pub reads : reading_of (trim p) ≡ Ok its
     pub no_argument : its.argument ≡ its.stop
     pub names : NamesPrefix (part_of (trim p) its.word its.end)
     pub accepted : Accepted (typed fresh p store).out
@@ -98,9 +88,8 @@ module _ (table : List Row) where
 
   -- what a reading of the text s sets
   unfoldable pub read_sets : List ℕ → CommandRead → CommandContext → CommandContext
-  read_sets s (CommandRead.Command d) x = sets_by s d.range (role_named table (part_of s d.word d.end)) x
-  read_sets s CommandRead.Failed x = x
-  read_sets s CommandRead.TooLarge x = x
+  read_sets s (Ok d) x = sets_by s d.range (role_named table (part_of s d.word d.end)) x
+  read_sets s (Err why) x = x
 
   -- what the prefix p sets
   unfoldable pub sets : List ℕ → CommandContext → CommandContext
@@ -112,17 +101,17 @@ module _ (table : List Row) where
   context_from x (p ∷ ps) = context_from (sets p x) ps
 
   -- what the last tab prefix of a list sets, its last axis prefix and its last side prefix
-  unfoldable pub last_tab : List (List ℕ) → TabSet
-  last_tab [] = TabSet.Unset
-  last_tab (p ∷ ps) = or_tab (last_tab ps) (sets p fresh).tab
+  unfoldable pub last_tab : List (List ℕ) → Option FocusChange
+  last_tab [] = None
+  last_tab (p ∷ ps) = or_set (last_tab ps) (sets p fresh).tab
 
-  unfoldable pub last_axis : List (List ℕ) → AxisSet
-  last_axis [] = AxisSet.Unset
-  last_axis (p ∷ ps) = or_axis (last_axis ps) (sets p fresh).axis
+  unfoldable pub last_axis : List (List ℕ) → Option Axis
+  last_axis [] = None
+  last_axis (p ∷ ps) = or_set (last_axis ps) (sets p fresh).axis
 
-  unfoldable pub last_side : List (List ℕ) → SideSet
-  last_side [] = SideSet.Unset
-  last_side (p ∷ ps) = or_side (last_side ps) (sets p fresh).rel
+  unfoldable pub last_side : List (List ℕ) → Option Side
+  last_side [] = None
+  last_side (p ∷ ps) = or_set (last_side ps) (sets p fresh).rel
 
   -- those three, and all else as in the fresh context
   abbrev pub lasts : List (List ℕ) → CommandContext

@@ -6,14 +6,15 @@ ghost use Rattle.commands.specs.Line.{store_after};
 ghost use Rattle.run.specs.Reply.{reply};
 ghost use Rattle.session.specs.Lent.{fresh_no, fresh_bytes, line_answer, line_bytes, alias_no, alias_bytes, read_back_no, read_back_count, read_back_store};
 
-use run::reply::LineReply;
-use session::lent::{CountReply, alias_in, fresh_in, line_in, remembered_in};
+use limits::refusal::number_of;
+use run::reply::{CountReply, LineReply};
+use session::lent::{alias_in, fresh_in, line_in, remembered_in};
 
 pub fn pagyolint_fresh(session: &mut [u8]) -> u64
     ensures answer { result ≡ fresh_no session.old }
     ensures session { session.new ≡ fresh_bytes session.old }
 {
-    fresh_in(session)
+    number_of(fresh_in(session))
 }
 
 pub fn pagyolint_line(session: &mut [u8], line: &[u8], store: &mut [u8]) -> LineReply
@@ -28,7 +29,7 @@ pub fn pagyolint_alias(session: &mut [u8], word: &[u8], command: u64) -> u64
     ensures answer { result ≡ alias_no session.old word.now command }
     ensures session { session.new ≡ alias_bytes session.old word.now command }
 {
-    alias_in(session, word, command)
+    number_of(alias_in(session, word, command))
 }
 
 pub fn pagyolint_remembered(session: &[u8], store: &mut [u8]) -> CountReply
@@ -36,5 +37,5 @@ pub fn pagyolint_remembered(session: &[u8], store: &mut [u8]) -> CountReply
     ensures count { result.count ≡ read_back_count session.now (length store.old) }
     ensures store { store.new ≡ read_back_store session.now store.old }
 {
-    remembered_in(session, store)
+    CountReply::from(remembered_in(session, store))
 }

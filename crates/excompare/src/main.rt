@@ -9,19 +9,15 @@ use console::file::open_read;
 use console::report::settled;
 use console::told::{Errors, FAILED, hand_over};
 use differences::differ::{Pair, Report};
+use files::file::Unread;
 use files::tell::{tell_argument, tell_failed};
 use files::whole::look;
 use scan::part::part;
-use show::{Shown, show};
+use show::show;
 use std::fs::File;
 use std::io;
 use std::rt::{Env, Files};
-
-// Nothing can be compared, and nothing is shown.
-const FAILURE: Shown = Shown {
-    at: 0,
-    verdict: FAILED,
-};
+use texts::page::Page;
 
 // A report that is open, and where its last line starts.
 #[derive(Drop)]
@@ -84,9 +80,9 @@ fn written_out(rt: &(impl Print + Files), text: &[u8]) -> io::Result<()> {
 }
 
 // Writes the answer. The verdict is then another if that fails, which is told.
-fn written(rt: &(impl Errors + Files + Print), out: &[u8], s: Shown) -> u64 {
-    match written_out(rt, part(out, 0, s.at)) {
-        Ok(()) => s.verdict,
+fn written(rt: &(impl Errors + Files + Print), text: &[u8], verdict: u64) -> u64 {
+    match written_out(rt, text) {
+        Ok(()) => verdict,
         Err(e) => {
             tell_failed(rt, b"standard output", e);
             FAILED
@@ -103,17 +99,21 @@ fn compared<R: Env + Errors + Files<File = File> + Print>(
     let a = opened(rt, 1, a_name);
     let b = opened(rt, 3, b_name);
     let mut out = [0u8; 65536];
-    let s = match (&a, &b) {
+    let mut page = Page::new(&mut out);
+    let shown = match (&a, &b) {
         (Some(x), Some(y)) => {
             let r = Pair {
                 a: x.lent(a_name),
                 b: y.lent(b_name),
             };
-            show(rt, &mut out, r).unwrap_or(FAILURE)
+            show(rt, &mut page, r)
         }
-        _ => FAILURE,
+        _ => Err(Unread),
     };
-    written(rt, &out, s)
+    match shown {
+        Ok(verdict) => written(rt, page.written(), verdict),
+        Err(Unread) => written(rt, b"", FAILED),
+    }
 }
 
 // The verdict.

@@ -6,102 +6,127 @@
 
 use calls::fresh;
 use console::argument::argument;
-use console::file::{File, Sum, ended, is_same, no_file, open_file, put_file, rewound, say_of};
+use console::file::{File, Sum, open_file, put_file, rewind, say_of};
 use console::program::{Program, put_maker};
-use console::report::{REPORT, Report, end_report, flush, fresh_report, up_to};
-use console::told::{DONE, Errors, FAILED, REFUSED, hand_over, say};
-use layout::places::SESSION;
-use scan::part::part;
-use sheet::sheet::{Sheet, run, start};
+use console::report::{REPORT, Report};
+use console::told::{DONE, Errors, FAILED, Failure, REFUSED, hand_over, say};
+use sheet::sheet::{Done, Kind, run};
 use std::fs;
 use std::rt::{Env, Files};
 use tally::{ACTIONS, COUNTS, put_tally, refused};
-use texts::put::put_text;
+use texts::page::Page;
+
+// A file that is open, and what to call it.
+#[derive(Drop)]
+struct Named<'a> {
+    file: File,
+    name: &'a [u8],
+}
+
+// Opens the file at a path.
+fn open_named<'a, R: Errors + Files<File = fs::File>>(
+    rt: &R,
+    path: &[u8],
+    name: &'a [u8],
+) -> Result<Named<'a>, Failure> {
+    let file = open_file(rt, Program::Exsheet, path, name)?;
+    Ok(Named { file, name })
+}
+
+// The alias file, if one is named.
+fn alias_file<'a, R: Errors + Files<File = fs::File>>(
+    rt: &R,
+    path: &[u8],
+    name: &'a [u8],
+) -> Result<Option<Named<'a>>, Failure> {
+    if path.is_empty() {
+        return Ok(None);
+    }
+    Ok(Some(open_named(rt, path, name)?))
+}
 
 // Whether a file is one of aliases: it has one, and no line that is anything else.
-fn is_alias_file(rt: &(impl Print + Errors), f: &mut File, name: &[u8], out: &mut [u8]) -> bool {
-    let mut session = [0u8; SESSION];
-    fresh(&mut session);
-    let r = fresh_report(Program::Exsheet, false);
+fn is_alias_file(rt: &(impl Print + Errors), f: &mut Named<'_>, out: &mut [u8]) -> bool {
+    let mut session = fresh();
     let mut counts = [0u64; COUNTS];
-    let done = run(rt, f, name, &mut session, &mut counts, out, start(true, r));
-    let sum = done.sum;
-    sum.good && (counts[ACTIONS] > 0 || refused(&counts) > 0)
+    let mut report = Report::new(Program::Exsheet, out);
+    let looked = run(
+        rt,
+        &mut f.file.handle,
+        f.name,
+        Kind::Looked,
+        &mut session,
+        &mut counts,
+        &mut report,
+    );
+    looked.is_ok() && (counts[ACTIONS] > 0 || refused(&counts) > 0)
 }
 
 // The sheet at its start again, unless it is a file of aliases that was given as it was before.
 fn not_as_before(
     rt: &(impl Print + Errors + Env),
-    f: &mut File,
-    name: &[u8],
+    f: &mut Named<'_>,
     out: &mut [u8],
-) -> Sum {
-    let sum = f.sum;
+) -> Result<(), Failure> {
     let mut before = [0u8; 8];
-    if argument(rt, 5, &mut before) == 0 {
-        return sum;
+    if argument(rt, 5, &mut before).is_empty() {
+        return Ok(());
     }
-    if is_alias_file(rt, f, name, out) {
+    if is_alias_file(rt, f, out) {
         say(
             rt,
             Program::Exsheet,
-            name,
+            f.name,
             b" has aliases, which are given with -a: exsheet -a ALIASES [SHEET]",
         );
-        return ended(sum, false);
+        return Err(Failure);
     }
-    rewound(rt, Program::Exsheet, f, name, sum)
+    rewind(rt, Program::Exsheet, &mut f.file.handle, f.name)
 }
 
 // The line about the aliases.
-fn put_aliases(out: &mut [u8], at: usize, path: &[u8], name: &[u8], f: &File) -> usize {
-    if path.len() == 0 {
-        return put_text(out, at, b"aliases none\n");
+fn put_aliases(page: &mut Page<'_>, aliases: &Option<Named<'_>>) {
+    match aliases {
+        None => page.text(b"aliases none\n"),
+        Some(f) => put_file(page, b"aliases ", f.name, f.file.sum),
     }
-    let sum = f.sum;
-    put_file(out, at, b"aliases ", name, sum)
 }
 
-// The alias file, if one is named.
-fn alias_file<R: Errors + Files<File = fs::File>>(rt: &R, path: &[u8], name: &[u8]) -> File {
-    if path.len() == 0 {
-        return no_file(true);
-    }
-    open_file(rt, Program::Exsheet, path, name)
+// The head of the report: who made it, and of which files.
+fn put_head(page: &mut Page<'_>, sheet: &Named<'_>, aliases: &Option<Named<'_>>) {
+    put_maker(page, Program::Exsheet);
+    put_file(page, b"sheet ", sheet.name, sheet.file.sum);
+    put_aliases(page, aliases);
 }
 
-// Adds the aliases, if a file of them is named, and counts them.
-fn add_aliases(
+// Runs a file's lines. A file that was not the same both times is told.
+fn run_whole(
     rt: &(impl Print + Errors),
-    f: &mut File,
-    path: &[u8],
-    name: &[u8],
+    f: &mut Named<'_>,
+    kind: Kind,
     session: &mut [u8],
     counts: &mut [u64; COUNTS],
-    out: &mut [u8],
-    r: Report,
-) -> Sheet {
-    let s = start(true, r);
-    if path.len() == 0 {
-        return s;
+    report: &mut Report<'_>,
+) -> Result<Done, Failure> {
+    let done = run(
+        rt,
+        &mut f.file.handle,
+        f.name,
+        kind,
+        session,
+        counts,
+        report,
+    )?;
+    if done.sum != f.file.sum {
+        say_of(rt, Program::Exsheet, f.name, b" changed while it was read");
+        return Err(Failure);
     }
-    run(rt, f, name, session, counts, out, s)
-}
-
-// Whether a file was read to its end, and was the same both times.
-fn is_whole(rt: &impl Errors, s: Sheet, f: &File, name: &[u8]) -> bool {
-    let read = s.sum;
-    let first = f.sum;
-    if read.good && !is_same(read, first) {
-        say_of(rt, Program::Exsheet, name, b" changed while it was read");
-        return false;
-    }
-    read.good
+    Ok(done)
 }
 
 // A sheet from another system reads otherwise than it looks.
-fn say_returns(rt: &impl Errors, s: Sheet, name: &[u8]) {
-    if s.returns {
+fn say_returns(rt: &impl Errors, done: Done, name: &[u8]) {
+    if done.returns {
         say_of(
             rt,
             Program::Exsheet,
@@ -111,144 +136,103 @@ fn say_returns(rt: &impl Errors, s: Sheet, name: &[u8]) {
     }
 }
 
-// Sums the sheet up, and ends the report. So many aliases were refused.
-fn summed_up(
-    rt: &(impl Print + Errors + Files),
-    out: &mut [u8],
-    bad: u64,
-    lines: Sheet,
-    counts: &[u64; COUNTS],
-) -> u64 {
-    let report = lines.report;
-    let at = put_tally(out, report.at, counts);
-    if !end_report(rt, out, up_to(report, at)) {
-        return FAILED;
-    }
-    if bad > 0 || refused(counts) > 0 {
-        return REFUSED;
-    }
-    DONE
-}
-
-// A report that is broken off has no number.
-fn broken_off(rt: &(impl Print + Errors), out: &[u8], s: Sheet) -> u64 {
-    let report = s.report;
-    flush(rt, out, report);
-    FAILED
-}
-
-// The sheet's lines.
-fn run_lines(
-    rt: &(impl Print + Errors + Files),
-    g: &mut File,
-    name: &[u8],
+// Adds the aliases, if a file of them is named, and answers how many were refused.
+fn add_aliases(
+    rt: &(impl Print + Errors),
+    aliases: &mut Option<Named<'_>>,
     session: &mut [u8],
-    out: &mut [u8],
-    aliases: Sheet,
-    bad: u64,
-) -> u64 {
-    let r = aliases.report;
+    report: &mut Report<'_>,
+) -> Result<u64, Failure> {
     let mut counts = [0u64; COUNTS];
-    let lines = run(rt, g, name, session, &mut counts, out, start(false, r));
-    if is_whole(rt, lines, g, name) {
-        say_returns(rt, lines, name);
-        return summed_up(rt, out, bad, lines, &counts);
+    if let Some(f) = aliases {
+        run_whole(rt, f, Kind::Aliases, session, &mut counts, report)?;
     }
-    broken_off(rt, out, lines)
+    Ok(refused(&counts))
 }
 
-// The sheet's lines behind the aliases, where those could be read.
-fn behind_aliases(
-    rt: &(impl Print + Errors + Files),
-    g: &mut File,
-    name: &[u8],
+// Runs the sheet's lines, sums them up, and answers how many were refused.
+fn run_lines(
+    rt: &(impl Print + Errors),
+    sheet: &mut Named<'_>,
     session: &mut [u8],
-    out: &mut [u8],
-    aliases: Sheet,
-    bad: u64,
-    whole: bool,
-) -> u64 {
-    if whole {
-        return run_lines(rt, g, name, session, out, aliases, bad);
+    report: &mut Report<'_>,
+) -> Result<u64, Failure> {
+    let mut counts = [0u64; COUNTS];
+    let done = run_whole(rt, sheet, Kind::Lines, session, &mut counts, report)?;
+    say_returns(rt, done, sheet.name);
+    put_tally(&mut report.page, &counts);
+    Ok(refused(&counts))
+}
+
+// The aliases and the lines, and the verdict on them.
+fn told(
+    rt: &(impl Print + Errors),
+    sheet: &mut Named<'_>,
+    aliases: &mut Option<Named<'_>>,
+    report: &mut Report<'_>,
+) -> Result<u64, Failure> {
+    let mut session = fresh();
+    let bad = add_aliases(rt, aliases, &mut session, report)?;
+    let worse = run_lines(rt, sheet, &mut session, report)?;
+    if bad > 0 || worse > 0 {
+        return Ok(REFUSED);
     }
-    broken_off(rt, out, aliases)
+    Ok(DONE)
 }
 
-// The head of the report: who made it, and of which files.
-fn head(out: &mut [u8], name: &[u8], sum: Sum, aliases: &[u8], called: &[u8], f: &File) -> Report {
-    let i = put_maker(out, 0, Program::Exsheet);
-    let j = put_file(out, i, b"sheet ", name, sum);
-    let k = put_aliases(out, j, aliases, called, f);
-    up_to(fresh_report(Program::Exsheet, true), k)
-}
-
-// The report, with each file's path or name.
+// The report. One that is broken off has no number.
 fn report(
     rt: &(impl Print + Errors + Files),
-    f: &mut File,
-    aliases: &[u8],
-    called: &[u8],
-    g: &mut File,
-    name: &[u8],
+    sheet: &mut Named<'_>,
+    aliases: &mut Option<Named<'_>>,
     out: &mut [u8],
-) -> u64 {
-    let sum = g.sum;
-    let r = head(out, name, sum, aliases, called, f);
-    let mut session = [0u8; SESSION];
-    fresh(&mut session);
-    let mut counts = [0u64; COUNTS];
-    let added = add_aliases(rt, f, aliases, called, &mut session, &mut counts, out, r);
-    let whole = is_whole(rt, added, f, called);
-    behind_aliases(
-        rt,
-        g,
-        name,
-        &mut session,
-        out,
-        added,
-        refused(&counts),
-        whole,
-    )
+) -> Result<u64, Failure> {
+    let mut report = Report::new(Program::Exsheet, out);
+    put_head(&mut report.page, sheet, aliases);
+    match told(rt, sheet, aliases, &mut report) {
+        Ok(verdict) => {
+            report.end(rt)?;
+            Ok(verdict)
+        }
+        Err(Failure) => {
+            report.flush(rt);
+            Err(Failure)
+        }
+    }
 }
 
-// Both files, each with its path and name.
+// Both files, each by its path and name.
 fn with_files<R: Print + Errors + Env + Files<File = fs::File>>(
     rt: &R,
     path: &[u8],
     name: &[u8],
     aliases: &[u8],
     called: &[u8],
-) -> u64 {
-    let mut f = alias_file(rt, aliases, called);
-    let mut g = open_file(rt, Program::Exsheet, path, name);
-    let first = f.sum;
-    let second = g.sum;
-    if !first.good || !second.good {
-        return FAILED;
-    }
+) -> Result<u64, Failure> {
+    let first = alias_file(rt, aliases, called);
+    let second = open_named(rt, path, name);
+    let mut aliases = first?;
+    let mut sheet = second?;
     let mut out = [0u8; REPORT];
-    let again = not_as_before(rt, &mut g, name, &mut out);
-    if !again.good {
-        return FAILED;
-    }
-    report(rt, &mut f, aliases, called, &mut g, name, &mut out)
+    not_as_before(rt, &mut sheet, &mut out)?;
+    report(rt, &mut sheet, &mut aliases, &mut out)
 }
 
-fn main(rt: HostRuntime) {
+fn verdict(rt: &HostRuntime) -> Result<u64, Failure> {
     let mut path = [0u8; 4096];
     let mut name = [0u8; 4096];
     let mut aliases = [0u8; 4096];
     let mut called = [0u8; 4096];
-    let a = argument(&rt, 1, &mut path);
-    let b = argument(&rt, 2, &mut name);
-    let c = argument(&rt, 3, &mut aliases);
-    let d = argument(&rt, 4, &mut called);
-    let verdict = with_files(
-        &rt,
-        part(&path, 0, a),
-        part(&name, 0, b),
-        part(&aliases, 0, c),
-        part(&called, 0, d),
-    );
-    hand_over(&rt, verdict);
+    with_files(
+        rt,
+        argument(rt, 1, &mut path),
+        argument(rt, 2, &mut name),
+        argument(rt, 3, &mut aliases),
+        argument(rt, 4, &mut called),
+    )
+}
+
+fn main(rt: HostRuntime) {
+    let v = verdict(&rt).unwrap_or(FAILED);
+    hand_over(&rt, v);
 }

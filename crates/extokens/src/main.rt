@@ -34,6 +34,7 @@ fn print_token(rt: &impl Print, t: Token) -> io::Result<()> {
     println!(rt; " {} {}", t.start, t.stop)
 }
 
+// Token by token. The step is a token, whose place the next one goes on from, so the loop is a `while`.
 fn print_tokens(rt: &impl Print, line: &[u8]) -> io::Result<()> {
     let mut here = step(line, Position::Lead(0));
     while here.token.start < line.len() {

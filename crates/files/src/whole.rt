@@ -35,7 +35,7 @@ fn plain_number(s: &[u8]) -> Option<u64> {
         return None;
     }
     match digits(s, 0) {
-        Decimal::Value(n, e) if e == s.len() => Some(n),
+        Ok(Some((n, e))) if e == s.len() => Some(n),
         _ => None,
     }
 }

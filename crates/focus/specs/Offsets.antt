@@ -2,14 +2,12 @@
 -- Document 01, section Commands: "sum_mods starts at Next, 0. Same direction adds; the other direction turns and leaves the difference's
 -- size." Refusal 7: "An offset sum that is worked out passes 2^64 - 1".
 -- Assumes nothing.
-use Rattle.std.specs.Prelude.{◌≡◌, Bool, true, false, List, [], ◌∷◌, ℕ, ◌+◌, ◌^◌, ◌<◌, eqb}
+use Rattle.std.specs.Prelude.{◌≡◌, Bool, true, false, List, [], ◌∷◌, ℕ, ◌+◌, ◌^◌, ◌<◌, eqb, Ok}
 use Rattle.scan.specs.Scan.{byte_at}
 use Rattle.ranges.specs.Offset.{offset_at}
 use Rattle.ranges.specs.Range.{is_sign}
-use Rattle.ranges.specs.declared.range.Offset.{Offset}
 use Rattle.ranges.specs.declared.range.RangeEnding.{RangeEnding}
-use Rattle.focus.specs.Sum.{add_to, sum_at}
-use Rattle.focus.specs.declared.sum.Sum.{Sum}
+use Rattle.focus.specs.Sum.{add_to, sum_at, Sum}
 
 -- an offset: whether its sign is `+`, and its size
 abbrev pub Signed : Type 0
@@ -18,7 +16,7 @@ Signed = Bool × ℕ
 -- in the text s, from i up to j, stand these offsets, one behind the other, each below 2^64, and none behind the last
 pub data Offsets (s : List ℕ) : ℕ → ℕ → List Signed → Type 0 where
   none : {i : ℕ} → is_sign (byte_at s i) ≡ false → Offsets s i i []
-  more : {i n k b j : ℕ} {os : List Signed} → is_sign (byte_at s i) ≡ true → offset_at s (i + 1) ≡ Offset.Is n k b → n < 2 ^ 64 →
+  more : {i n k b j : ℕ} {os : List Signed} → is_sign (byte_at s i) ≡ true → offset_at s (i + 1) ≡ Ok (n, k, b) → n < 2 ^ 64 →
       Offsets s k j os → Offsets s i j ((eqb (byte_at s i) 0x2B, n) ∷ os)
 
 -- a sum, and then these offsets

@@ -2,30 +2,25 @@
 -- Assumes nothing.
 use Rattle.std.proofs.Math.Path.{◌≡◌, refl, ap, subst}
 use Rattle.std.proofs.Common.{◌∙◌, sym}
-use Rattle.std.specs.Prelude.{Bool, true, false, drop}
+use Rattle.std.specs.Prelude.{Bool, true, false, drop, Result, Ok, Err, Some, None}
 use mathlib.Core.List.{List, [], ◌∷◌}
 use Prim.Native.Nat.{ℕ, zero, suc, ◌+◌, ◌-◌, ◌<◌, ◌≤◌}
 use native.Mathlib.Omega.{arith}
 use Rattle.std.proofs.Math.ListN.{length, length-drop, get_or-eq_default}
-use Rattle.scan.specs.Scan.{byte_at, digits_from, digits_at}
+use Rattle.scan.specs.Scan.{byte_at, digits_from, digits_at, Decimal}
 use Rattle.scan.specs.DigitsLaws.{digits_below, digits_past}
 use Rattle.scan.specs.RunLaws.{drop_step}
-use Rattle.scan.specs.declared.decimal.Decimal.{Decimal}
 use Rattle.ranges.specs.Bounds.{off_stop, off_bare, off_value, off_large, value_room}
 use Rattle.ranges.specs.EndsLaws.{AllEnds, range_ends}
 use Rattle.ranges.specs.Offset.{offset_of, offset_at}
-use Rattle.ranges.specs.Range.{is_sign, atom_at, offsets_from, offsets_at, with_offsets, after_atom, ending_at, range_at}
-use Rattle.ranges.specs.declared.range.AtomRead.{AtomRead}
-use Rattle.ranges.specs.declared.range.EndingRead.{EndingRead}
-use Rattle.ranges.specs.declared.range.OffsetsRead.{OffsetsRead}
+use Rattle.ranges.specs.Range.{is_sign, atom_at, offsets_from, offsets_at, with_offsets, after_atom, ending_at, range_at, AtomRead}
 use Rattle.ranges.specs.declared.range.RangeEnding.{RangeEnding}
 use Rattle.ranges.specs.declared.range.RangeEndingType.{RangeEndingType}
-use Rattle.ranges.specs.declared.range.RangeRead.{RangeRead}
 use Rattle.ranges.specs.declared.range.RangeSpec.{RangeSpec}
 use Rattle.focus.specs.Offsets.{Signed, Offsets, add_all, Summed, EndSummed}
-use Rattle.focus.specs.Sum.{sum_at}
+use Rattle.focus.specs.Sum.{sum_at, Sum}
 use Rattle.focus.specs.SumLaws.{sum_none, sum_next}
-use Rattle.focus.specs.declared.sum.Sum.{Sum}
+use Rattle.limits.specs.declared.refusal.Refusal.{Refusal}
 
 -- the sum is that of the offsets that stand there
 pub sum_offsets : {s : List ℕ} {i j : ℕ} {os : List Signed} → Offsets s i j os → (a : Sum) → sum_at a s i ≡ add_all a os
@@ -59,19 +54,19 @@ record Listed (s : List ℕ) (i j : ℕ) : Type 0 where
   stand : Offsets s i j offsets
 
 module _ (s : List ℕ) (j : ℕ) where
-  listed_none : (i : ℕ) → is_sign (byte_at s i) ≡ false → OffsetsRead.End i ≡ OffsetsRead.End j → Listed s i j
+  listed_none : (i : ℕ) → is_sign (byte_at s i) ≡ false → ◌≡◌ {A = Result ℕ Refusal} (Ok i) (Ok j) → Listed s i j
   listed_none i h e = let q : i ≡ j = cc in subst (Listed s i) q (record { offsets = []; stand = Offsets.none h })
 
-  listed_bare : (i : ℕ) → is_sign (byte_at s i) ≡ true → digits_at s (i + 1) ≡ Decimal.Absent → Listed s (i + 1) j → Listed s i j
+  listed_bare : (i : ℕ) → is_sign (byte_at s i) ≡ true → digits_at s (i + 1) ≡ Ok None → Listed s (i + 1) j → Listed s i j
   unfolding offset_at offset_of
   listed_bare i h d r = record { offsets = _; stand = Offsets.more {n = 1} {k = i + 1} {b = byte_at s (i + 1)} h (ap (offset_of s (i + 1)) d) (omega arith) r.stand }
 
-  listed_value : (i n k : ℕ) → is_sign (byte_at s i) ≡ true → digits_at s (i + 1) ≡ Decimal.Value n k → Listed s k j → Listed s i j
+  listed_value : (i n k : ℕ) → is_sign (byte_at s i) ≡ true → digits_at s (i + 1) ≡ Ok (Some (n, k)) → Listed s k j → Listed s i j
   unfolding offset_at offset_of digits_at
   listed_value i n k h d r =
       record { offsets = _; stand = Offsets.more {n = n} {k = k} {b = byte_at s k} h (ap (offset_of s (i + 1)) d) (digits_below (i + 1) (drop (i + 1) s) n k d) r.stand }
 
-  listed_from : (xs : List ℕ) (k i : ℕ) → drop i s ≡ xs → k ≤ length xs → offsets_from k i xs ≡ OffsetsRead.End j → Listed s (i + k) j
+  listed_from : (xs : List ℕ) (k i : ℕ) → drop i s ≡ xs → k ≤ length xs → offsets_from k i xs ≡ Ok j → Listed s (i + k) j
   unfolding offsets_from
   listed_from [] zero i e h r =
       let q : i ≡ i + 0 = omega arith in
@@ -88,24 +83,24 @@ module _ (s : List ℕ) (j : ℕ) where
       l = left s i b bs e
 
       go : (t : Bool) (d : Decimal) → is_sign b ≡ t → digits_from (i + 1) bs ≡ d →
-          ((k : ℕ) → k ≤ length bs → offsets_from k (i + 1) bs ≡ OffsetsRead.End j → Listed s (i + 1 + k) j) → Listed s i j
+          ((k : ℕ) → k ≤ length bs → offsets_from k (i + 1) bs ≡ Ok j → Listed s (i + 1 + k) j) → Listed s i j
       go false d f g ih = listed_none i (ap is_sign l.first ∙ f) (sym (off_stop i b bs f) ∙ r)
-      go true Decimal.Absent f g ih =
+      go true (Ok None) f g ih =
           let q : i + 1 + 0 ≡ i + 1 = omega arith in
           listed_bare i (ap is_sign l.first ∙ f) (l.digits ∙ g) (subst (λ (m : ℕ). Listed s m j) q (ih 0 (omega arith) (sym (off_bare i b bs f g) ∙ r)))
-      go true (Decimal.Value n k) f g ih =
+      go true (Ok (Some (n, k))) f g ih =
           let w = digits_past s (i + 1) n k (omega (arith, l.inside)) (l.digits ∙ g) in
           let q : i + 1 + (k - (i + 1)) ≡ k = omega (arith, w) in
           listed_value i n k (ap is_sign l.first ∙ f) (l.digits ∙ g)
           (subst (λ (m : ℕ). Listed s m j) q (ih (k - (i + 1)) (value_room i b bs n k g) (sym (off_value i b bs n k f g) ∙ r)))
-      go true Decimal.TooLarge f g ih =
+      go true (Err why) f g ih =
           let c = off_large i b bs f g in
           let z : ◌≡◌ {A = ℕ} 0 1 = cc in
           absurd (omega arith)
 
 module _ (s : List ℕ) where
   -- offsets that are read
-  pub offsets_summed : (i j : ℕ) → offsets_at s i ≡ OffsetsRead.End j → Summed s i j
+  pub offsets_summed : (i j : ℕ) → offsets_at s i ≡ Ok j → Summed s i j
   unfolding offsets_at
   offsets_summed i j e =
       let q : i + 0 ≡ i = omega arith in
@@ -113,23 +108,23 @@ module _ (s : List ℕ) where
       record { offsets = l.offsets; stand = l.stand; sum = sum_offsets l.stand }
 
   -- an end that is read
-  with_summed : (a : RangeEndingType) (i : ℕ) (r : OffsetsRead) (e : RangeEnding) → offsets_at s i ≡ r → with_offsets a i r ≡ EndingRead.Found e → EndSummed s e
+  with_summed : (a : RangeEndingType) (i : ℕ) (r : Result ℕ Refusal) (e : RangeEnding) → offsets_at s i ≡ r → with_offsets a i r ≡ Ok e → EndSummed s e
   unfolding with_offsets
-  with_summed a i (OffsetsRead.End j) e h k =
+  with_summed a i (Ok j) e h k =
       let q : record { atom = a; from = i; to = j } ≡ e = cc in
       subst (EndSummed s) q (offsets_summed i j h)
-  with_summed a i OffsetsRead.TooLarge e h k = let z : ◌≡◌ {A = ℕ} 0 1 = cc in absurd (omega arith)
+  with_summed a i (Err why) e h k = let z : ◌≡◌ {A = ℕ} 0 1 = cc in absurd (omega arith)
 
-  after_summed : (i : ℕ) (a : AtomRead) (e : RangeEnding) → after_atom s i a ≡ EndingRead.Found e → EndSummed s e
+  after_summed : (i : ℕ) (a : AtomRead) (e : RangeEnding) → after_atom s i a ≡ Ok e → EndSummed s e
   unfolding after_atom
-  after_summed i AtomRead.Absent e k = with_summed RangeEndingType.Unspecified i (offsets_at s i) e refl k
-  after_summed i (AtomRead.Found a j) e k = with_summed a j (offsets_at s j) e refl k
-  after_summed i AtomRead.TooLarge e k = let z : ◌≡◌ {A = ℕ} 0 1 = cc in absurd (omega arith)
+  after_summed i (Ok None) e k = with_summed RangeEndingType.Unspecified i (offsets_at s i) e refl k
+  after_summed i (Ok (Some (a, j))) e k = with_summed a j (offsets_at s j) e refl k
+  after_summed i (Err why) e k = let z : ◌≡◌ {A = ℕ} 0 1 = cc in absurd (omega arith)
 
-  pub ending_summed : (i : ℕ) (e : RangeEnding) → ending_at s i ≡ EndingRead.Found e → EndSummed s e
+  pub ending_summed : (i : ℕ) (e : RangeEnding) → ending_at s i ≡ Ok e → EndSummed s e
   unfolding ending_at
   ending_summed i e k = after_summed i (atom_at s i) e k
 
   -- both ends of a range that is read
-  pub range_summed : (i : ℕ) (g : RangeSpec) (j : ℕ) → range_at s i ≡ RangeRead.Found g j → AllEnds (EndSummed s) g
+  pub range_summed : (i : ℕ) (g : RangeSpec) (j : ℕ) → range_at s i ≡ Ok (Some (g, j)) → AllEnds (EndSummed s) g
   range_summed i g j q = range_ends s (EndSummed s) i g j q (ending_summed i) (λ m e z. ending_summed (m + 1) e)

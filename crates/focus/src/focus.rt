@@ -11,18 +11,7 @@ use ranges::range::{RangeEnding, RangeEndingType, RangeRead, RangeSpec};
 use scan::part::text_again;
 
 // The focus that a range names, or a refusal.
-#[derive(Clone, Copy)]
-pub enum Focused {
-    To(FocusChange),
-    Refused(Refusal),
-}
-
-// The count that a range names, or a refusal.
-#[derive(Clone, Copy)]
-pub enum Counted {
-    Exact(u64),
-    Refused(Refusal),
-}
+pub type Focused = Result<FocusChange, Refusal>;
 
 // The same focus, taken apart by its cases and put together again, so that its parts travel in registers.
 pub fn focus_again(f: FocusChange) -> FocusChange
@@ -37,25 +26,24 @@ pub fn focus_again(f: FocusChange) -> FocusChange
     }
 }
 
+#[tactic(auto, unfolding(crate::specs::Focus::toward))]
 fn toward(s: Sum, wrap: bool) -> Focused
     ensures { result ≡ toward_of s wrap }
 {
-    match s {
-        Sum::Is(d, k) => Focused::To(FocusChange::Direction1D(d, Count::Exact(k), wrap)),
-        Sum::Over => Focused::Refused(Refusal::SumTooLarge),
-    }
+    let (d, k) = s?;
+    Ok(FocusChange::Direction1D(d, Count::Exact(k), wrap))
 }
 
+#[tactic(auto, unfolding(crate::specs::Focus::placed))]
 fn placed(n: u64, s: Sum) -> Focused
     ensures { result ≡ placed_of n s }
 {
-    match s {
-        Sum::Is(d, k) => Focused::To(FocusChange::Offset(moved(n, d, k))),
-        Sum::Over => Focused::Refused(Refusal::SumTooLarge),
-    }
+    let (d, k) = s?;
+    Ok(FocusChange::Offset(moved(n, d, k)))
 }
 
 // Digits give Offset; none or `.` gives Direction1D; bare `$` gives End.
+#[tactic(auto, unfolding(crate::specs::Focus::end_focus))]
 fn end_focus(s: &[u8], e: RangeEnding, wrap: bool) -> Focused
     ensures { result ≡ end_focus s.now e.atom e.from e.to wrap }
 {
@@ -64,76 +52,66 @@ fn end_focus(s: &[u8], e: RangeEnding, wrap: bool) -> Focused
     let to = e.to;
     match a {
         RangeEndingType::Absolute(n) => placed(n, sum_mods(text_again(s), from)),
-        RangeEndingType::Unspecified => toward(sum_mods(text_again(s), from), wrap),
-        RangeEndingType::Current => toward(sum_mods(text_again(s), from), wrap),
-        RangeEndingType::Last => {
-            if from == to {
-                return Focused::To(FocusChange::End);
-            }
-            Focused::Refused(Refusal::InvalidRange)
+        RangeEndingType::Unspecified | RangeEndingType::Current => {
+            toward(sum_mods(text_again(s), from), wrap)
         }
-        RangeEndingType::All => Focused::Refused(Refusal::InvalidRange),
-        RangeEndingType::Search(_) => Focused::Refused(Refusal::InvalidRange),
-        RangeEndingType::SubPatSearch => Focused::Refused(Refusal::InvalidRange),
-        RangeEndingType::Mark(_) => Focused::Refused(Refusal::InvalidRange),
+        RangeEndingType::Last if from == to => Ok(FocusChange::End),
+        _ => Err(Refusal::InvalidRange),
     }
 }
 
+#[tactic(auto, unfolding(crate::specs::Focus::range_focus))]
 pub fn range_to_fc(s: &[u8], g: RangeSpec, wrap: bool) -> Focused
     ensures { result ≡ range_focus s.now g wrap }
 {
     match g {
         RangeSpec::Single(e) => end_focus(s, ending_again(e), wrap),
-        RangeSpec::Double(_, _, _) => Focused::Refused(Refusal::InvalidRange),
+        RangeSpec::Double(_, _, _) => Err(Refusal::InvalidRange),
     }
 }
 
 // The focus of an optional range: without one the current window or tab.
+#[tactic(auto, unfolding(crate::specs::Focus::focus_of))]
 pub fn window_range_target(s: &[u8], g: RangeRead) -> Focused
     ensures { result ≡ focus_of s.now g }
 {
-    match g {
-        RangeRead::Found(r, _) => range_to_fc(s, spec_again(r), false),
-        RangeRead::Absent => Focused::To(FocusChange::Current),
-        RangeRead::TooLarge => Focused::Refused(Refusal::NumberTooLarge),
+    match g? {
+        Some((r, _)) => range_to_fc(s, spec_again(r), false),
+        None => Ok(FocusChange::Current),
     }
 }
 
+#[tactic(auto, unfolding(crate::specs::Focus::at_least_one))]
 fn at_least_one(n: u64) -> u64
     ensures { result ≡ at_least_one n }
 {
     if n == 0 { 1 } else { n }
 }
 
-fn sized(n: u64, s: Sum) -> Counted
+#[tactic(auto, unfolding(crate::specs::Focus::sized))]
+fn sized(n: u64, s: Sum) -> Result<u64, Refusal>
     ensures { result ≡ sized_of n s }
 {
-    match s {
-        Sum::Is(d, k) => Counted::Exact(at_least_one(moved(n, d, k))),
-        Sum::Over => Counted::Refused(Refusal::SumTooLarge),
-    }
+    let (d, k) = s?;
+    Ok(at_least_one(moved(n, d, k)))
 }
 
 // Digits and offsets, at least 1; anything else is 2^64 - 1, its offsets ignored.
-fn end_count(s: &[u8], e: RangeEnding) -> Counted
+#[tactic(auto, unfolding(crate::specs::Focus::end_count))]
+fn end_count(s: &[u8], e: RangeEnding) -> Result<u64, Refusal>
     ensures { result ≡ end_count s.now e.atom e.from }
 {
     let a = e.atom;
     let from = e.from;
     match a {
         RangeEndingType::Absolute(n) => sized(n, sum_mods(text_again(s), from)),
-        RangeEndingType::Unspecified => Counted::Exact(MOST),
-        RangeEndingType::Current => Counted::Exact(MOST),
-        RangeEndingType::Last => Counted::Exact(MOST),
-        RangeEndingType::All => Counted::Exact(MOST),
-        RangeEndingType::Search(_) => Counted::Exact(MOST),
-        RangeEndingType::SubPatSearch => Counted::Exact(MOST),
-        RangeEndingType::Mark(_) => Counted::Exact(MOST),
+        _ => Ok(MOST),
     }
 }
 
 // The right end of two.
-pub fn range_to_count(s: &[u8], g: RangeSpec) -> Counted
+#[tactic(auto, unfolding(crate::specs::Focus::range_count))]
+pub fn range_to_count(s: &[u8], g: RangeSpec) -> Result<u64, Refusal>
     ensures { result ≡ range_count s.now g }
 {
     match g {

@@ -1,9 +1,9 @@
 // The sum of offsets.
-ghost use Rattle.std.specs.Prelude.{◌≡◌};
+ghost use Rattle.std.specs.Prelude.{◌≡◌, Ok};
 ghost use Rattle.focus.specs.Sum.{add_same, apart as apart_of, add_is, sum_at, sum_of, moved as moved_of};
-ghost use Rattle.focus.specs.declared.sum.Sum.{Sum};
 
 use limits::MOST;
+use limits::refusal::Refusal;
 use ranges::range::{MoveDir1D, Offset, is_sign, offset_at};
 use scan::decimal::is_digit;
 use scan::part::byte_at;
@@ -12,19 +12,15 @@ use scan::part::byte_at;
 const MANY: usize = 64;
 
 // A sum of offsets: its direction and size, or that it passed 2^64 - 1.
-#[derive(Clone, Copy)]
-pub enum Sum {
-    Is(MoveDir1D, u64),
-    Over,
-}
+pub type Sum = Result<(MoveDir1D, u64), Refusal>;
 
 fn add_same(d: MoveDir1D, n: u64, k: u64) -> Sum
     ensures { result ≡ add_same d n k }
 {
     if k <= MOST - n {
-        return Sum::Is(d, n + k);
+        return Ok((d, n + k));
     }
-    Sum::Over
+    Err(Refusal::SumTooLarge)
 }
 
 fn apart(n: u64, k: u64) -> u64
@@ -36,6 +32,7 @@ fn apart(n: u64, k: u64) -> u64
     k - n
 }
 
+#[tactic(auto, unfolding(crate::specs::Sum::add_is))]
 fn add_is(d: MoveDir1D, n: u64, plus: bool, k: u64) -> Sum
     ensures { result ≡ add_is d n plus k }
 {
@@ -44,11 +41,11 @@ fn add_is(d: MoveDir1D, n: u64, plus: bool, k: u64) -> Sum
             if plus {
                 return add_same(MoveDir1D::Next, n, k);
             }
-            Sum::Is(MoveDir1D::Previous, apart(n, k))
+            Ok((MoveDir1D::Previous, apart(n, k)))
         }
         MoveDir1D::Previous => {
             if plus {
-                return Sum::Is(MoveDir1D::Next, apart(n, k));
+                return Ok((MoveDir1D::Next, apart(n, k)));
             }
             add_same(MoveDir1D::Previous, n, k)
         }
@@ -65,7 +62,7 @@ pub struct Begun {
 
 // The sum of offsets of one digit, each with a sign behind it: in a long text, where there may be many.
 fn sum_pairs(s: &[u8], at: usize) -> Begun
-    ensures { sum_of s.now at ≡ sum_at (Sum.Is result.d result.n) s.now result.at }
+    ensures { sum_of s.now at ≡ sum_at (Ok (result.d, result.n)) s.now result.at }
 {
     let mut i = at;
     let mut d = MoveDir1D::Next;
@@ -78,6 +75,7 @@ fn sum_pairs(s: &[u8], at: usize) -> Begun
         return Begun { d: d, n: n, at: i };
     }
     let last = s.len() - 2;
+    // By two bytes, left at the first that are no offset of one digit: a `for` would count the pairs beside the place.
     while i < last {
         let c = s[i + 1];
         if !is_digit(c) {
@@ -87,7 +85,7 @@ fn sum_pairs(s: &[u8], at: usize) -> Begun
         if !is_sign(e) {
             return Begun { d: d, n: n, at: i };
         }
-        let Sum::Is(x, y) = add_is(d, n, b == 0x2B, (c - 0x30) as u64) else {
+        let Ok((x, y)) = add_is(d, n, b == 0x2B, (c - 0x30) as u64) else {
             return Begun { d: d, n: n, at: i };
         };
         d = x;
@@ -107,16 +105,15 @@ pub fn sum_mods(s: &[u8], at: usize) -> Sum
     let mut d = g.d;
     let mut n = g.n;
     let mut b = byte_at(s, i);
+    // Each offset says where the next one starts.
     loop {
         if !is_sign(b) {
-            return Sum::Is(d, n);
+            return Ok((d, n));
         }
-        let Offset::Is(k, j, c) = offset_at(s, i + 1) else {
-            return Sum::Over;
+        let Ok((k, j, c)) = offset_at(s, i + 1) else {
+            return Err(Refusal::SumTooLarge);
         };
-        let Sum::Is(e, m) = add_is(d, n, b == 0x2B, k) else {
-            return Sum::Over;
-        };
+        let (e, m) = add_is(d, n, b == 0x2B, k)?;
         d = e;
         n = m;
         i = j;

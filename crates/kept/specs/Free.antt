@@ -2,14 +2,13 @@
 -- used, are the same session (`alike_read`). All others are fixed: bytes that are taken and are the same session are the same wherever they are
 -- used (`read_alike`). And no call changes those that are free (`fresh_free`, `line_free`, `add_free`).
 -- Assumes nothing.
-use Rattle.std.specs.Prelude.{◌≡◌, Bool, cond, List, ℕ, length}
+use Rattle.std.specs.Prelude.{◌≡◌, Bool, cond, List, ℕ, length, Ok, Err}
 use Rattle.std.proofs.Math.Path.{refl}
 use Rattle.std.proofs.Common.{sym, ◌∙◌, ap}
 use Rattle.std.proofs.Math.Bool.{true, false}
 use Rattle.std.proofs.Math.Dec.{eqb}
 use Rattle.scan.specs.Scan.{byte_at}
-use Rattle.reading.specs.Alone.{check_for, by_check, checked_for, line_room}
-use Rattle.reading.specs.declared.alone.Checked.{Checked}
+use Rattle.reading.specs.Alone.{check_for, by_check, checked_for, line_room, Checked}
 use Rattle.fields.specs.Field.{Bytes, SameWhere}
 use Rattle.placing.specs.Change.{insert}
 use Rattle.layout.specs.Layout.{session_size, fresh, line_field, added_field, session_field, session_of, remembering, aliasing, written, sound}
@@ -68,8 +67,8 @@ module _ (b : List ℕ) (i : ℕ) where
   line_free l size h = go (sound b)
     where
       at : (k : Checked) → check_for (line_room l) l size ≡ k → byte_at (by_check (λ n. b) (line_field.write l b) k) i ≡ byte_at b i
-      at Checked.Good e = line_lawful.keeps l b (line_ok l ∙ line_good l size e) i h
-      at (Checked.Bad x) e = refl
+      at (Ok tt) e = line_lawful.keeps l b (line_ok l ∙ line_good l size e) i h
+      at (Err x) e = refl
 
       go : (w : Bool) → byte_at (cond w (bytes_on b l size) b) i ≡ byte_at b i
       go true = at (check_for (line_room l) l size) refl

@@ -1,12 +1,11 @@
 -- Every call keeps a session sound, and what the session then is. Document 01: "The remembered line is set once checks 1, 12 and 2 pass,
 -- even if the line is then refused." "99 comes before every other check and changes nothing."
 -- Assumes nothing.
-use Rattle.std.specs.Prelude.{◌≡◌, refl, Bool, true, false, cond, List, ℕ, eqb, leb, length}
+use Rattle.std.specs.Prelude.{◌≡◌, refl, Bool, true, false, cond, List, ℕ, eqb, leb, length, Ok, Err}
 use Rattle.std.proofs.Common.{sym, ◌∙◌, arith, eqb-true, leb-true, le-leb}
 use Rattle.limits.specs.Limits.{line_limit, last_command, alias_limit}
-use Rattle.reading.specs.Alone.{check_for, by_check, checked_for, line_room}
+use Rattle.reading.specs.Alone.{check_for, by_check, checked_for, line_room, Checked}
 use Rattle.reading.specs.Checks.{check_for_passed}
-use Rattle.reading.specs.declared.alone.Checked.{Checked}
 use Rattle.words.specs.Words.{Row}
 use Rattle.fields.specs.BoolLaws.{and_of}
 use Rattle.tables.specs.Table.{is_name, good_table}
@@ -34,7 +33,7 @@ fresh_kept b = go (eqb (length b) session_size) refl
 -- a line ------------------------------------------------------------------------------------------------------------------------------------
 
 -- one that passes the checks may be remembered
-pub line_good : (l : List ℕ) (size : ℕ) → check_for (line_room l) l size ≡ Checked.Good → good_line l ≡ true
+pub line_good : (l : List ℕ) (size : ℕ) → check_for (line_room l) l size ≡ Ok tt → good_line l ≡ true
 unfolding good_line
 line_good l size e = let p = check_for_passed (line_room l) l size e in and_of (le-leb (length l) line_limit p.0) p.2
 
@@ -46,8 +45,8 @@ line_read b l size h = rw h (go (check_for (line_room l) l size) refl)
   where
     go : (k : Checked) → check_for (line_room l) l size ≡ k →
         ReadAs (by_check (λ n. b) (remembering l b) k) (with_line (by_check (λ n. (session_of b).line) l k) (session_of b))
-    go Checked.Good e = remember_sound l b h (line_good l size e)
-    go (Checked.Bad x) e = (h, refl)
+    go (Ok tt) e = remember_sound l b h (line_good l size e)
+    go (Err x) e = (h, refl)
 
 pub line_kept : (b l : List ℕ) (size : ℕ) → sound (line_bytes b l size) ≡ sound b
 unfolding line_bytes

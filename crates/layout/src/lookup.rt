@@ -7,7 +7,7 @@ use super::places::ADDED;
 use limits::ALIASES;
 use scan::part::{byte_at, part, text_again};
 use tables::find::find;
-use words::words::{Named, lookup};
+use words::words::lookup;
 
 // The bytes in which words are looked up: none where a session has no aliases, so that this is told once for all words of a line.
 pub fn words_of(b: &[u8]) -> &[u8]
@@ -20,21 +20,21 @@ pub fn words_of(b: &[u8]) -> &[u8]
 }
 
 // What an added alias of a session leads to.
-pub fn find_added(b: &[u8], w: &[u8]) -> Named
+pub fn find_added(b: &[u8], w: &[u8]) -> Option<u64>
     ensures { result ≡ lookup_in (session_of b.now).rows w.now }
 {
     if b.len() == 0 {
-        return Named::Unknown;
+        return None;
     }
     find(b, ADDED, ALIASES, w)
 }
 
 // What a word of a session leads to.
-pub fn find_word(b: &[u8], w: &[u8]) -> Named
+pub fn find_word(b: &[u8], w: &[u8]) -> Option<u64>
     ensures { result ≡ lookup_in (table_of (session_of b.now)) w.now }
 {
     match find_added(b, w) {
-        Named::Command(n) => Named::Command(n),
-        Named::Unknown => lookup(w),
+        Some(n) => Some(n),
+        None => lookup(w),
     }
 }

@@ -52,3 +52,13 @@ place_of Refusal.Unimplemented = 10
 place_of Refusal.StoreTooShort = 11
 place_of Refusal.AliasesFull = 12
 place_of Refusal.NotASession = 13
+
+-- the number that a call answers: a refusal's, or 0 where it is not refused
+abbrev pub number_of : {A : Type 0} → Result A Refusal → ℕ
+number_of (Ok x) = 0
+number_of (Err x) = refusal_no x
+
+-- and how many bytes or things it counts: none where it is refused
+abbrev pub count_of : Result ℕ Refusal → ℕ
+count_of (Ok n) = n
+count_of (Err x) = 0

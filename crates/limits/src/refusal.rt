@@ -1,6 +1,6 @@
 // Refusals: why a call is turned down, and the number that it then answers.
 ghost use Rattle.std.specs.Prelude.{◌≡◌, ◌<◌, ℕ, length};
-ghost use Rattle.limits.specs.Refusals.{refusal_no, refusals, refusal_of, place_of};
+ghost use Rattle.limits.specs.Refusals.{refusal_no, refusals, refusal_of, place_of, number_of};
 
 // Each refusal and its number.
 #[derive(Clone, Copy, PartialEq, Eq)]
@@ -28,6 +28,7 @@ pub const LAST_REFUSAL: u64 = Refusal::NotASession as u64;
 
 impl Refusal {
     // The place of a refusal among all, in the order of their numbers.
+    // By cases: the numbers have a gap before 99, so that the place is no cast.
     pub fn place(self) -> usize
         ensures value { result ≡ place_of self }
         ensures bound { result < length refusals }
@@ -56,6 +57,16 @@ impl From<Refusal> for u64 {
 
     fn from(x: Refusal) -> u64 {
         x as u64
+    }
+}
+
+// The number that a call over C answers: a refusal's, or 0 where it is not refused.
+pub fn number_of(r: Result<(), Refusal>) -> u64
+    ensures { result ≡ number_of r }
+{
+    match r {
+        Ok(()) => 0,
+        Err(x) => u64::from(x),
     }
 }
 

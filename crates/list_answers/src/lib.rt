@@ -4,7 +4,7 @@
 
 use limits::{LINE, STORE};
 use lists::option::OptionType;
-use reading::alone::{FilenameType, FilenamesReply, OptionsReply, StringsReply};
+use reading::alone::{FilenameType, ListReply};
 use scan::part::part;
 use vectors::answer::Answer;
 use vectors::op::List;
@@ -38,54 +38,58 @@ fn put_option(out: &mut Answer, o: OptionType, store: &[u8]) {
     }
 }
 
-// The class and the count come first.
-fn put_head(out: &mut Answer, place: usize, count: usize) {
-    if place == 0 {
-        out.put_two(0, count as u64);
+// What comes before an item: a refusal, or at place 0 the class and the count. Then the item, if there is one at the place.
+fn put_head<T: Copy>(out: &mut Answer, place: usize, reply: ListReply<T>) -> Option<T> {
+    match reply {
+        Ok(listed) => {
+            if place == 0 {
+                out.put_two(0, listed.count as u64);
+            }
+            listed.item
+        }
+        Err(why) => {
+            out.refuse(why);
+            None
+        }
     }
 }
 
-// The item of a list at a place, and whether there is one. What `reading` answers has a type for each kind of list, so each has a function.
+// The item of a list at a place, and whether there is one. The items of each kind of list have a type of their own, so each has a function.
 fn put_filename_at(out: &mut Answer, text: &[u8], place: usize) -> bool {
     let mut store = [0u8; STORE];
-    match reading::alone::filenames(text, place, &mut store) {
-        FilenamesReply::Refused(x) => out.refuse(x),
-        FilenamesReply::Beyond(count) => put_head(out, place, count),
-        FilenamesReply::Item(count, t) => {
-            put_head(out, place, count);
+    match put_head(
+        out,
+        place,
+        reading::alone::filenames(text, place, &mut store),
+    ) {
+        Some(t) => {
             put_filename(out, t, &store);
-            return true;
+            true
         }
+        None => false,
     }
-    false
 }
 
 fn put_string_at(out: &mut Answer, text: &[u8], place: usize) -> bool {
     let mut store = [0u8; STORE];
-    match reading::alone::strings(text, place, &mut store) {
-        StringsReply::Refused(x) => out.refuse(x),
-        StringsReply::Beyond(count) => put_head(out, place, count),
-        StringsReply::Item(count, k) => {
-            put_head(out, place, count);
+    match put_head(out, place, reading::alone::strings(text, place, &mut store)) {
+        Some(k) => {
             out.put_name(part(&store, 0, k));
-            return true;
+            true
         }
+        None => false,
     }
-    false
 }
 
 fn put_option_at(out: &mut Answer, text: &[u8], place: usize) -> bool {
     let mut store = [0u8; STORE];
-    match reading::alone::options(text, place, &mut store) {
-        OptionsReply::Refused(x) => out.refuse(x),
-        OptionsReply::Beyond(count) => put_head(out, place, count),
-        OptionsReply::Item(count, o) => {
-            put_head(out, place, count);
+    match put_head(out, place, reading::alone::options(text, place, &mut store)) {
+        Some(o) => {
             put_option(out, o, &store);
-            return true;
+            true
         }
+        None => false,
     }
-    false
 }
 
 fn put_item_at(list: List, out: &mut Answer, text: &[u8], place: usize) -> bool {

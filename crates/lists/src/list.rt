@@ -4,10 +4,10 @@ ghost use Rattle.std.specs.Prelude.{◌≡◌, false, ◌&&◌, ◌||◌, ◌+�
 ghost use Rattle.store.specs.Sevens.{named};
 ghost use Rattle.store.specs.Splice.{Put, Room};
 ghost use Rattle.lists.specs.Lists.{item_of as item_from, item_at, text_at, items_at, lone as lone_of, keyless as keyless_text};
-ghost use Rattle.lists.specs.Listed.{RoomFor, passing, list_from, list_of};
+ghost use Rattle.lists.specs.Listed.{RoomFor, passing, found, list_from, list_of};
 
 use super::option::empty_key;
-use super::text::{TextEnd, copy_text, item_text, put_text, text_end};
+use super::text::{copy_text, item_text, put_text, text_end};
 use blocks::run::skip_spaces;
 use scan::part::byte_at;
 
@@ -25,6 +25,19 @@ pub enum Picked {
     Item(Item),
 }
 
+impl Picked {
+    // The item, if it was reached.
+    #[tactic(auto, unfolding(crate::specs::Listed::found))]
+    pub fn found(self) -> Option<Item>
+        ensures { result ≡ found self }
+    {
+        match self {
+            Picked::Item(x) => Some(x),
+            Picked::Ahead(_) => None,
+        }
+    }
+}
+
 // What was seen of a list: how many items, whether one is a flag with an empty key, and the item at the place asked for.
 #[derive(Clone, Copy)]
 pub struct Seen {
@@ -33,31 +46,17 @@ pub struct Seen {
     pub picked: Picked,
 }
 
-#[derive(Clone, Copy)]
-pub enum ListRead {
-    List(Seen),
-    Bad,
-}
-
 // The end of an item whose text starts at `i` and ends at `e`, with `d` bytes behind it; an item has at least one byte or escape.
-pub fn item_of(i: usize, d: usize, e: TextEnd) -> TextEnd
+pub fn item_of(i: usize, d: usize, e: Option<usize>) -> Option<usize>
     requires { RoomFor d e }
     ensures { result ≡ item_from i d e }
 {
-    match e {
-        TextEnd::End(j) => {
-            if j == i {
-                TextEnd::Bad
-            } else {
-                TextEnd::End(j + d)
-            }
-        }
-        TextEnd::Bad => TextEnd::Bad,
-    }
+    let j = e?;
+    if j == i { None } else { Some(j + d) }
 }
 
-// Where the item at `at` ends.
-pub fn item_end(s: &[u8], at: usize) -> TextEnd
+// Where the item at `at` ends, if it is one.
+pub fn item_end(s: &[u8], at: usize) -> Option<usize>
     ensures { result ≡ item_at s.now at }
 {
     if byte_at(s, at) == 0x22 {
@@ -127,42 +126,41 @@ fn keyless_by(s: &[u8], at: usize, flags: bool, before: bool) -> bool
     false
 }
 
-// The items from the first byte on, where one must stand.
-fn items_from(s: &[u8], place: usize, flags: bool) -> ListRead
+// The items from the first byte on, where one must stand; none where the list fails.
+fn items_from(s: &[u8], place: usize, flags: bool) -> Option<Seen>
     ensures { result ≡ list_from s.now flags 0 false (Picked.Ahead place) (items_at s.now 0) }
 {
     let mut i: usize = 0;
     let mut n: usize = 0;
     let mut keyless = false;
     let mut picked = Picked::Ahead(place);
+    // Each item says where the next one starts.
     loop {
-        let TextEnd::End(j) = item_end(s, i) else {
-            return ListRead::Bad;
-        };
+        let j = item_end(s, i)?;
         n += 1;
         keyless = keyless_by(s, i, flags, keyless);
         picked = passed(picked, Item { start: i, end: j });
         let k = skip_spaces(s, j);
         if k == s.len() {
-            return ListRead::List(Seen {
+            return Some(Seen {
                 count: n,
                 keyless: keyless,
                 picked: picked,
             });
         }
         if k == j {
-            return ListRead::Bad;
+            return None;
         }
         i = k;
     }
 }
 
-// The list that a text is: its count, the item at a place, and, where flags are looked for, whether one has an empty key.
-pub fn parse_list(s: &[u8], place: usize, flags: bool) -> ListRead
+// The list that a text is, if it is one: its count, the item at a place, and, where flags are looked for, whether one has an empty key.
+pub fn parse_list(s: &[u8], place: usize, flags: bool) -> Option<Seen>
     ensures { result ≡ list_of s.now place flags }
 {
     if skip_spaces(s, 0) == s.len() {
-        return ListRead::List(Seen {
+        return Some(Seen {
             count: 0,
             keyless: false,
             picked: Picked::Ahead(place),

@@ -8,7 +8,7 @@ ghost use Rattle.lists.specs.Text.{own, bytes_at};
 ghost use Rattle.lists.specs.Lists.{text_at, key_of, after_key, is_empty, keyless, option_of};
 ghost use Rattle.lists.specs.Listed.{Emits, Flags, OptionSeen, option_bytes};
 
-use super::text::{Escape, copy_text, escape_of, item_text};
+use super::text::{copy_text, escape_of, item_text};
 use scan::classes::{Class, Plain, Quoted};
 use scan::part::byte_at;
 
@@ -18,20 +18,6 @@ pub enum OptionType {
     Positional(usize),
     Flag(usize),
     FlagValue(usize, usize),
-}
-
-// The first byte that a text stands for and where the next one starts, or that the text ends.
-#[derive(Clone, Copy)]
-pub enum Emitted {
-    Byte(u8, usize),
-    Nothing,
-}
-
-// Where the key of a flag starts, past `++`.
-#[derive(Clone, Copy)]
-pub enum FlagRead {
-    Key(usize),
-    Positional,
 }
 
 // How many bytes a key has, and where it ends.
@@ -51,59 +37,53 @@ fn is_own(quoted: bool, b: u8) -> bool
     }
 }
 
-// What the backslash at `at` and the byte after it stand for.
-fn emit_escape(s: &[u8], at: usize, quoted: bool) -> Emitted
+// What the backslash at `at` and the byte after it stand for, and where the next byte starts, if they are an escape.
+fn emit_escape(s: &[u8], at: usize, quoted: bool) -> Option<(u8, usize)>
     requires { byte_at s.now at ≡ 0x5C }
     ensures { Emits quoted s.now at result }
 {
-    match escape_of(quoted, byte_at(s, at + 1)) {
-        Escape::Byte(c) => Emitted::Byte(c, at + 2),
-        Escape::Bad => Emitted::Nothing,
-    }
+    let c = escape_of(quoted, byte_at(s, at + 1))?;
+    Some((c, at + 2))
 }
 
-// The first byte that the text at `at` stands for.
-fn emit_at(s: &[u8], at: usize, quoted: bool) -> Emitted
+// The first byte that the text at `at` stands for and where the next one starts, or none where the text ends.
+fn emit_at(s: &[u8], at: usize, quoted: bool) -> Option<(u8, usize)>
     ensures { Emits quoted s.now at result }
 {
     if s.len() <= at {
-        return Emitted::Nothing;
+        return None;
     }
     let b = s[at];
     if is_own(quoted, b) {
-        return Emitted::Byte(b, at + 1);
+        return Some((b, at + 1));
     }
     if b == 0x5C {
         return emit_escape(s, at, quoted);
     }
-    Emitted::Nothing
+    None
 }
 
-// Whether the text at `at` starts with `++`.
-fn flag_start(s: &[u8], at: usize, quoted: bool) -> FlagRead
+// Where the key of a flag starts, past the `++` that the text at `at` starts with; none where it starts otherwise.
+fn flag_start(s: &[u8], at: usize, quoted: bool) -> Option<usize>
     ensures { Flags quoted s.now at result }
 {
-    let Emitted::Byte(b, j) = emit_at(s, at, quoted) else {
-        return FlagRead::Positional;
-    };
+    let (b, j) = emit_at(s, at, quoted)?;
     if b != 0x2B {
-        return FlagRead::Positional;
+        return None;
     }
-    let Emitted::Byte(d, k) = emit_at(s, j, quoted) else {
-        return FlagRead::Positional;
-    };
+    let (d, k) = emit_at(s, j, quoted)?;
     if d != 0x2B {
-        return FlagRead::Positional;
+        return None;
     }
-    FlagRead::Key(k)
+    Some(k)
 }
 
 fn key_is_empty(s: &[u8], at: usize, quoted: bool) -> bool
     ensures { result ≡ is_empty (key_of (bytes_at quoted s.now at)) }
 {
     match emit_at(s, at, quoted) {
-        Emitted::Byte(b, _) => b == 0x3D,
-        Emitted::Nothing => true,
+        Some((b, _)) => b == 0x3D,
+        None => true,
     }
 }
 
@@ -113,8 +93,8 @@ pub fn empty_key(s: &[u8], at: usize) -> bool
 {
     let t = item_text(s, at);
     match flag_start(s, t.from, t.quoted) {
-        FlagRead::Key(k) => key_is_empty(s, k, t.quoted),
-        FlagRead::Positional => false,
+        Some(k) => key_is_empty(s, k, t.quoted),
+        None => false,
     }
 }
 
@@ -126,8 +106,9 @@ fn copy_key(s: &[u8], at: usize, quoted: bool, store: &mut [u8]) -> Key
 {
     let mut i = at;
     let mut n: usize = 0;
+    // Each byte of the key says where the next one starts: an escape is two bytes long.
     loop {
-        let Emitted::Byte(b, j) = emit_at(s, i, quoted) else {
+        let Some((b, j)) = emit_at(s, i, quoted) else {
             return Key { count: n, next: i };
         };
         if b == 0x3D {
@@ -146,11 +127,11 @@ pub fn copy_option(s: &[u8], at: usize, store: &mut [u8]) -> OptionType
     ensures written { store.new ≡ sets store.old 0 (option_bytes (option_of (text_at s.now at))) }
 {
     let t = item_text(s, at);
-    let FlagRead::Key(k) = flag_start(s, t.from, t.quoted) else {
+    let Some(k) = flag_start(s, t.from, t.quoted) else {
         return OptionType::Positional(copy_text(s, t.from, t.quoted, store, 0));
     };
     let key = copy_key(s, k, t.quoted, store);
-    let Emitted::Byte(_, j) = emit_at(s, key.next, t.quoted) else {
+    let Some((_, j)) = emit_at(s, key.next, t.quoted) else {
         return OptionType::Flag(key.count);
     };
     let e = copy_text(s, j, t.quoted, store, key.count);

@@ -13,25 +13,11 @@ use scan::classes::{Plain, Quoted};
 use scan::part::{byte_at, part};
 use store::{put_bytes, put_number};
 
-// What a backslash and the byte after it stand for.
-#[derive(Clone, Copy)]
-pub enum Escape {
-    Byte(u8),
-    Bad,
-}
-
 // Escapes that stand one after the other: the position past them, and how many; or, where they are written, the place after.
 #[derive(Clone, Copy)]
 pub struct Escapes {
     pub at: usize,
     pub n: usize,
-}
-
-// Where a text ends.
-#[derive(Clone, Copy)]
-pub enum TextEnd {
-    End(usize),
-    Bad,
 }
 
 // The text of an item without its quotes: whether it is quoted, and where its first byte or escape stands.
@@ -57,36 +43,39 @@ pub fn item_text(s: &[u8], at: usize) -> ItemText
     }
 }
 
+// What a backslash and the byte after it stand for in a quoted text, if that byte may stand there.
 #[tactic(auto, unfolding(crate::specs::Text::quoted_escape))]
-fn quoted_escape(b: u8) -> Escape
+fn quoted_escape(b: u8) -> Option<u8>
     ensures { result ≡ quoted_escape b }
 {
     match b {
-        0x74 => Escape::Byte(0x09),
-        0x72 => Escape::Byte(0x0D),
-        0x6E => Escape::Byte(0x0A),
-        0x5C => Escape::Byte(0x5C),
-        0x22 => Escape::Byte(0x22),
-        _ => Escape::Bad,
+        0x74 => Some(0x09),
+        0x72 => Some(0x0D),
+        0x6E => Some(0x0A),
+        0x5C => Some(0x5C),
+        0x22 => Some(0x22),
+        _ => None,
     }
 }
 
+// The same in a plain text.
 #[tactic(auto, unfolding(crate::specs::Text::plain_escape))]
-fn plain_escape(b: u8) -> Escape
+fn plain_escape(b: u8) -> Option<u8>
     ensures { result ≡ plain_escape b }
 {
     match b {
-        0x5C => Escape::Byte(0x5C),
-        0x20 => Escape::Byte(0x20),
-        0x23 => Escape::Byte(0x23),
-        0x25 => Escape::Byte(0x25),
-        0x7C => Escape::Byte(0x7C),
-        0x22 => Escape::Byte(0x22),
-        _ => Escape::Bad,
+        0x5C => Some(0x5C),
+        0x20 => Some(0x20),
+        0x23 => Some(0x23),
+        0x25 => Some(0x25),
+        0x7C => Some(0x7C),
+        0x22 => Some(0x22),
+        _ => None,
     }
 }
 
-pub fn escape_of(quoted: bool, b: u8) -> Escape
+// What a backslash and the byte after it stand for, if that byte may stand there.
+pub fn escape_of(quoted: bool, b: u8) -> Option<u8>
     ensures { result ≡ escape_of quoted b }
 {
     if quoted {
@@ -109,16 +98,17 @@ fn own_end(s: &[u8], at: usize, quoted: bool) -> usize
     }
 }
 
-fn stop_at(quoted: bool, i: usize, b: u8) -> TextEnd
+// The end of a text whose bytes and escapes end at `i`, where the byte `b` stands: a quoted one ends only before a quote.
+fn stop_at(quoted: bool, i: usize, b: u8) -> Option<usize>
     ensures { result ≡ stop_of quoted i b }
 {
     if quoted {
         if b == 0x22 {
-            return TextEnd::End(i);
+            return Some(i);
         }
-        return TextEnd::Bad;
+        return None;
     }
-    TextEnd::End(i)
+    Some(i)
 }
 
 // The position of the last byte, or 0 where there is none.
@@ -137,11 +127,12 @@ fn past_escapes(s: &[u8], at: usize, quoted: bool) -> Escapes
     let last = last_of(s);
     let mut i = at;
     let mut n: usize = 0;
+    // By two bytes, left at the first that are no escape: a `for` would count the escapes beside the place.
     while i < last {
         if s[i] != 0x5C {
             return Escapes { at: i, n: n };
         }
-        let Escape::Byte(_) = escape_of(quoted, s[i + 1]) else {
+        let Some(_) = escape_of(quoted, s[i + 1]) else {
             return Escapes { at: i, n: n };
         };
         i += 2;
@@ -150,16 +141,15 @@ fn past_escapes(s: &[u8], at: usize, quoted: bool) -> Escapes
     Escapes { at: i, n: n }
 }
 
-// Where the text at `at` ends, whose first byte is a backslash.
-fn escaped_end(s: &[u8], at: usize, quoted: bool) -> TextEnd
+// Where the text at `at` ends, whose first byte is a backslash; none where it breaks off.
+fn escaped_end(s: &[u8], at: usize, quoted: bool) -> Option<usize>
     requires { byte_at s.now at ≡ 0x5C }
     ensures { result ≡ text_end_at quoted s.now at }
 {
     let mut i = at;
+    // Escapes and runs of other bytes take turns, and each says where the next one starts.
     loop {
-        let Escape::Byte(_) = escape_of(quoted, byte_at(s, i + 1)) else {
-            return TextEnd::Bad;
-        };
+        escape_of(quoted, byte_at(s, i + 1))?;
         let e = past_escapes(s, i + 2, quoted);
         let j = own_end(s, e.at, quoted);
         let b = byte_at(s, j);
@@ -170,8 +160,8 @@ fn escaped_end(s: &[u8], at: usize, quoted: bool) -> TextEnd
     }
 }
 
-// Where the text at `at` ends. Called at two places, `escaped_end` is compiled once, and this stays short wherever it is called.
-pub fn text_end(s: &[u8], at: usize, quoted: bool) -> TextEnd
+// Where the text at `at` ends; none where it breaks off. Called at two places, `escaped_end` is compiled once, and this stays short wherever it is called.
+pub fn text_end(s: &[u8], at: usize, quoted: bool) -> Option<usize>
     ensures { result ≡ text_end_at quoted s.now at }
 {
     if quoted {
@@ -196,6 +186,7 @@ pub fn text_size(s: &[u8], at: usize, quoted: bool) -> usize
 {
     let mut i = at;
     let mut n: usize = 0;
+    // As above.
     loop {
         let e = past_escapes(s, i, quoted);
         let j = own_end(s, e.at, quoted);
@@ -220,11 +211,12 @@ fn put_escapes(s: &[u8], at: usize, quoted: bool, store: &mut [u8], to: usize) -
     let last = last_of(s);
     let mut i = at;
     let mut n = to;
+    // As above.
     while i < last {
         if s[i] != 0x5C {
             return Escapes { at: i, n: n };
         }
-        let Escape::Byte(c) = escape_of(quoted, s[i + 1]) else {
+        let Some(c) = escape_of(quoted, s[i + 1]) else {
             return Escapes { at: i, n: n };
         };
         store[n] = c;
@@ -241,6 +233,7 @@ pub fn copy_text(s: &[u8], at: usize, quoted: bool, store: &mut [u8], to: usize)
 {
     let mut i = at;
     let mut n = to;
+    // As above.
     loop {
         let e = put_escapes(s, i, quoted, store, n);
         let j = own_end(s, e.at, quoted);

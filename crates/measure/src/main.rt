@@ -3,15 +3,12 @@
 #![tactic(auto)]
 
 use layout::bytes::sound;
-use layout::places::SESSION;
 use limits::{LINE, STORE};
-use reading::alone::{FilenamesReply, OptionsReply, RangeReply, StringsReply};
-use reading::line::CommandRead;
 use scan::part::part;
-use session::lent::{fresh_in, line_in};
+use session::lent::line_in;
+use session::value::fresh;
 use std::io;
 use std::io::Read;
-use words::words::Named;
 
 fn by_utf8(text: &[u8]) -> u64 {
     if utf8::utf8::is_utf8(text) { 1 } else { 0 }
@@ -19,50 +16,46 @@ fn by_utf8(text: &[u8]) -> u64 {
 
 fn by_reading(text: &[u8]) -> u64 {
     match reading::line::parse(text) {
-        CommandRead::Command(d) => d.stop as u64,
-        CommandRead::Failed => 0,
-        CommandRead::TooLarge => 0,
+        Ok(d) => d.stop as u64,
+        Err(_) => 0,
     }
 }
 
 fn by_range(text: &[u8]) -> u64 {
     match reading::alone::range(text) {
-        RangeReply::Range(_) => 1,
-        RangeReply::Refused(_) => 0,
+        Ok(_) => 1,
+        Err(_) => 0,
     }
 }
 
 fn by_filenames(text: &[u8]) -> u64 {
     let mut store = [0u8; STORE];
     match reading::alone::filenames(text, 0, &mut store) {
-        FilenamesReply::Item(n, _) => n as u64,
-        FilenamesReply::Beyond(n) => n as u64,
-        FilenamesReply::Refused(_) => 0,
+        Ok(listed) => listed.count as u64,
+        Err(_) => 0,
     }
 }
 
 fn by_strings(text: &[u8]) -> u64 {
     let mut store = [0u8; STORE];
     match reading::alone::strings(text, 0, &mut store) {
-        StringsReply::Item(_, m) => m as u64,
-        StringsReply::Beyond(n) => n as u64,
-        StringsReply::Refused(_) => 0,
+        Ok(listed) => listed.item.unwrap_or(listed.count) as u64,
+        Err(_) => 0,
     }
 }
 
 fn by_options(text: &[u8]) -> u64 {
     let mut store = [0u8; STORE];
     match reading::alone::options(text, 0, &mut store) {
-        OptionsReply::Item(n, _) => n as u64,
-        OptionsReply::Beyond(n) => n as u64,
-        OptionsReply::Refused(_) => 0,
+        Ok(listed) => listed.count as u64,
+        Err(_) => 0,
     }
 }
 
 fn by_lookup(text: &[u8]) -> u64 {
     match layout::lookup::find_word(&text[0..0], text) {
-        Named::Command(n) => n,
-        Named::Unknown => 28,
+        Some(n) => n,
+        None => 28,
     }
 }
 
@@ -73,23 +66,20 @@ fn run_line(session: &mut [u8], text: &[u8]) -> u64 {
 }
 
 fn by_line(text: &[u8]) -> u64 {
-    let mut session = [0u8; SESSION];
-    fresh_in(&mut session);
+    let mut session = fresh().bytes;
     run_line(&mut session, text)
 }
 
 // The same line again, where it is the one that is remembered.
 fn by_line_again(text: &[u8]) -> u64 {
-    let mut session = [0u8; SESSION];
-    fresh_in(&mut session);
+    let mut session = fresh().bytes;
     run_line(&mut session, text);
     run_line(&mut session, text)
 }
 
 // The session's bytes are looked at once more.
 fn by_session(text: &[u8]) -> u64 {
-    let mut session = [0u8; SESSION];
-    fresh_in(&mut session);
+    let mut session = fresh().bytes;
     let n = run_line(&mut session, text);
     if sound(&session) { n } else { 0 }
 }

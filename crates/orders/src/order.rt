@@ -24,6 +24,7 @@ pub fn orders_of(n: usize) -> u64
     }
 }
 
+// The weight of a thing in the number of an order. By cases, as its definition is: a shift would have to be shown equal to it.
 pub fn weight(k: u8) -> u8
     ensures { result ≡ weight_of k }
 {
@@ -48,15 +49,13 @@ fn free(used: u8, d: u64) -> u8
     ensures { result ≡ free_from used 0 d }
 {
     let mut left = d;
-    let mut k: u8 = 0;
-    while k < 4 {
+    for k in 0..4 {
         if !is_in(used, k) {
             if left == 0 {
                 return k;
             }
             left -= 1;
         }
-        k += 1;
     }
     4
 }
@@ -87,10 +86,8 @@ pub fn order_of(count: usize, n: u64) -> [u8; 5]
         rest: n,
         order: [0; 5],
     };
-    let mut j: usize = 0;
-    while j < count {
+    for j in 0..count {
         p = picked(p, j, count - 1 - j);
-        j += 1;
     }
     p.order
 }

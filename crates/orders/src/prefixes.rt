@@ -4,41 +4,59 @@ use reading::line::{CommandDescription, CommandRead, parse};
 use scan::part::part;
 use words::words::lookup;
 
-// How many prefixes there are, of which the first five are kept: where each starts and stops as typed, with its range and bang, and its
-// kind, 1 for tab, 2 for an axis and 4 for a side; and where the last text starts and stops.
+// How many prefixes are kept.
+pub const MOST: usize = 5;
+
+// What a prefix sets.
+#[derive(Clone, Copy, PartialEq, Eq)]
+pub enum Kind {
+    Tab,
+    Axis,
+    Side,
+}
+
+// Where a prefix starts and stops as typed, with its range and bang.
+#[derive(Clone, Copy)]
+pub struct Prefix {
+    pub kind: Kind,
+    pub start: usize,
+    pub stop: usize,
+}
+
+// How many prefixes there are, the first of them, and where the last text starts and stops.
 #[derive(Clone, Copy)]
 pub struct Prefixes {
     pub count: usize,
-    pub starts: [usize; 5],
-    pub stops: [usize; 5],
-    pub kinds: [u8; 5],
+    first: [Prefix; MOST],
     pub text: usize,
     pub stop: usize,
 }
 
-// A prefix: its kind, where it stops, and where its argument starts and stops; or the last text.
+// A prefix that a text starts with: its kind, where it stops, and where its argument starts and stops.
 #[derive(Clone, Copy)]
-enum Found {
-    Prefix(u8, usize, usize, usize),
-    Last,
+struct Found {
+    kind: Kind,
+    stop: usize,
+    argument: usize,
+    end: usize,
 }
 
-// How far the prefixes are found.
-#[derive(Clone, Copy)]
-struct Finding {
-    found: Prefixes,
-    more: bool,
-}
+// What stands in a place that has no prefix.
+const NO_PREFIX: Prefix = Prefix {
+    kind: Kind::Tab,
+    start: 0,
+    stop: 0,
+};
 
 fn plus(a: usize, b: usize) -> usize {
     a.wrapping_add(b)
 }
 
-fn kind_of(c: Change) -> u8 {
+fn kind_of(c: Change) -> Kind {
     match c {
-        Change::Tab(_) => 1,
-        Change::Axis(_) => 2,
-        Change::Side(_) => 4,
+        Change::Tab(_) => Kind::Tab,
+        Change::Axis(_) => Kind::Axis,
+        Change::Side(_) => Kind::Side,
     }
 }
 
@@ -50,84 +68,72 @@ fn typed_end(d: CommandDescription) -> usize {
     d.end
 }
 
-fn by_next(d: CommandDescription, x: Next) -> Found {
+// The prefix that what a reading leads to is, if it is one.
+fn by_next(d: CommandDescription, x: Next) -> Option<Found> {
     match x {
-        Next::Empty => Found::Last,
-        Next::Refused(_) => Found::Last,
-        Next::Unknown(_, _) => Found::Last,
-        Next::Runs(_, _) => Found::Last,
-        Next::Again(c, a, e) => Found::Prefix(kind_of(c), typed_end(d), a, e),
+        Next::Empty => None,
+        Next::Refused(_) => None,
+        Next::Unknown(_, _) => None,
+        Next::Runs(_, _) => None,
+        Next::Again(c, a, e) => Some(Found {
+            kind: kind_of(c),
+            stop: typed_end(d),
+            argument: a,
+            end: e,
+        }),
     }
 }
 
-// What a text starts with.
-fn prefix_at(text: &[u8]) -> Found {
+// The prefix that a text starts with, if one does.
+fn prefix_at(text: &[u8]) -> Option<Found> {
     match parse(text) {
-        CommandRead::Command(d) => {
+        Ok(d) => {
             let m = lookup(part(text, d.word, d.end));
             by_next(d, by_name(text, d, m))
         }
-        CommandRead::Failed => Found::Last,
-        CommandRead::TooLarge => Found::Last,
+        Err(_) => None,
     }
 }
 
-// One prefix more.
-fn with(p: Prefixes, kind: u8, stop: usize, a: usize, e: usize) -> Prefixes {
-    let mut starts = p.starts;
-    let mut stops = p.stops;
-    let mut kinds = p.kinds;
-    let i = p.count;
-    if i < 5 {
-        starts[i] = p.text;
-        stops[i] = plus(p.text, stop);
-        kinds[i] = kind;
+impl Prefixes {
+    // A line of which no prefix is found yet.
+    fn none(line: &[u8]) -> Prefixes {
+        Prefixes {
+            count: 0,
+            first: [NO_PREFIX; MOST],
+            text: 0,
+            stop: line.len(),
+        }
     }
-    Prefixes {
-        count: plus(i, 1),
-        starts: starts,
-        stops: stops,
-        kinds: kinds,
-        text: plus(p.text, a),
-        stop: plus(p.text, e),
-    }
-}
 
-fn after(p: Prefixes, f: Found) -> Finding {
-    match f {
-        Found::Prefix(kind, stop, a, e) => Finding {
-            found: with(p, kind, stop, a, e),
-            more: true,
-        },
-        Found::Last => Finding {
-            found: p,
-            more: false,
-        },
+    // The prefix at a place.
+    pub fn at(&self, k: u8) -> Prefix {
+        *self.first.get(usize::from(k)).unwrap_or(&NO_PREFIX)
     }
-}
 
-fn turn(line: &[u8], f: Finding) -> Finding {
-    let p = f.found;
-    after(p, prefix_at(part(line, p.text, p.stop)))
+    // One prefix more.
+    fn add(&mut self, f: Found) {
+        if self.count < MOST {
+            self.first[self.count] = Prefix {
+                kind: f.kind,
+                start: self.text,
+                stop: plus(self.text, f.stop),
+            };
+        }
+        self.count = plus(self.count, 1);
+        self.stop = plus(self.text, f.end);
+        self.text = plus(self.text, f.argument);
+    }
 }
 
 // The prefixes of a line; six stand for more than five.
 pub fn prefixes_of(line: &[u8]) -> Prefixes {
-    let mut turns: usize = 6;
-    let mut f = Finding {
-        found: Prefixes {
-            count: 0,
-            starts: [0; 5],
-            stops: [0; 5],
-            kinds: [0; 5],
-            text: 0,
-            stop: line.len(),
-        },
-        more: true,
-    };
-    while turns > 0 && f.more {
-        f = turn(line, f);
-        turns -= 1;
+    let mut p = Prefixes::none(line);
+    for _ in 0..MOST + 1 {
+        match prefix_at(part(line, p.text, p.stop)) {
+            Some(f) => p.add(f),
+            None => break,
+        }
     }
-    f.found
+    p
 }

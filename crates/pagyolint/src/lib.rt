@@ -11,8 +11,7 @@ ghost use Rattle.sentences.specs.Sentences.{sentence};
 ghost use Rattle.tokens.specs.Through.{tokens_no, tokens_count, tokens_store};
 ghost use Rattle.pagyolint.specs.Texts.{copy_no, copy_count, copy_store, name_no, name_count, name_store, version_number};
 
-use run::reply::LineReply;
-use session::lent::CountReply;
+use run::reply::{CountReply, LineReply};
 use text::{command_name, refusal_text};
 use tokens::call::tokens_in;
 
@@ -59,7 +58,7 @@ pub extern "C" fn pagyolint_tokens(session: &[u8], line: &[u8], store: &mut [u8]
     ensures count { result.count ≡ tokens_count session.now line.now (length store.old) }
     ensures store { store.new ≡ tokens_store session.now line.now store.old }
 {
-    tokens_in(session, line, store)
+    CountReply::from(tokens_in(session, line, store))
 }
 
 #[unsafe(no_mangle)]
@@ -68,7 +67,7 @@ pub extern "C" fn pagyolint_refusal_text(refusal: u64, store: &mut [u8]) -> Coun
     ensures count { result.count ≡ copy_count (sentence refusal) (length store.old) }
     ensures store { store.new ≡ copy_store (sentence refusal) store.old }
 {
-    refusal_text(refusal, store)
+    CountReply::from(refusal_text(refusal, store))
 }
 
 #[unsafe(no_mangle)]
@@ -77,7 +76,7 @@ pub extern "C" fn pagyolint_command_name(command: u64, store: &mut [u8]) -> Coun
     ensures count { result.count ≡ name_count command (length store.old) }
     ensures store { store.new ≡ name_store command store.old }
 {
-    command_name(command, store)
+    CountReply::from(command_name(command, store))
 }
 
 #[unsafe(no_mangle)]

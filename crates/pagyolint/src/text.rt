@@ -1,36 +1,31 @@
 // A text copied to the front of a store.
 ghost use Rattle.std.specs.Prelude.{◌≡◌, length};
+ghost use Rattle.limits.specs.Refusals.{number_of, count_of};
 ghost use Rattle.sentences.specs.Sentences.{sentence};
 ghost use Rattle.pagyolint.specs.Texts.{copy_no, copy_count, copy_store, name_no, name_count, name_store};
 
 use limits::LAST_COMMAND;
 use limits::refusal::Refusal;
 use sentences::sentences;
-use session::lent::CountReply;
 use spellings::{names, word_of};
 use store::put_bytes;
 
-pub fn copy(text: &[u8], store: &mut [u8]) -> CountReply
-    ensures refusal { result.refusal ≡ copy_no text.now (length store.old) }
-    ensures count { result.count ≡ copy_count text.now (length store.old) }
+// A text, and how many bytes it has.
+pub fn copy(text: &[u8], store: &mut [u8]) -> Result<usize, Refusal>
+    ensures refusal { number_of result ≡ copy_no text.now (length store.old) }
+    ensures count { count_of result ≡ copy_count text.now (length store.old) }
     ensures store { store.new ≡ copy_store text.now store.old }
 {
     if store.len() < text.len() {
-        return CountReply {
-            refusal: u64::from(Refusal::StoreTooShort),
-            count: 0,
-        };
+        return Err(Refusal::StoreTooShort);
     }
-    CountReply {
-        refusal: 0,
-        count: put_bytes(store, 0, text) as u64,
-    }
+    Ok(put_bytes(store, 0, text))
 }
 
 // The sentence of a refusal.
-pub fn refusal_text(n: u64, store: &mut [u8]) -> CountReply
-    ensures refusal { result.refusal ≡ copy_no (sentence n) (length store.old) }
-    ensures count { result.count ≡ copy_count (sentence n) (length store.old) }
+pub fn refusal_text(n: u64, store: &mut [u8]) -> Result<usize, Refusal>
+    ensures refusal { number_of result ≡ copy_no (sentence n) (length store.old) }
+    ensures count { count_of result ≡ copy_count (sentence n) (length store.old) }
     ensures store { store.new ≡ copy_store (sentence n) store.old }
 {
     let rows = sentences();
@@ -38,16 +33,13 @@ pub fn refusal_text(n: u64, store: &mut [u8]) -> CountReply
 }
 
 // The name of a command.
-pub fn command_name(c: u64, store: &mut [u8]) -> CountReply
-    ensures refusal { result.refusal ≡ name_no c (length store.old) }
-    ensures count { result.count ≡ name_count c (length store.old) }
+pub fn command_name(c: u64, store: &mut [u8]) -> Result<usize, Refusal>
+    ensures refusal { number_of result ≡ name_no c (length store.old) }
+    ensures count { count_of result ≡ name_count c (length store.old) }
     ensures store { store.new ≡ name_store c store.old }
 {
     if (LAST_COMMAND as u64) < c {
-        return CountReply {
-            refusal: u64::from(Refusal::BadCommand),
-            count: 0,
-        };
+        return Err(Refusal::BadCommand);
     }
     let rows = names();
     copy(word_of(&rows, c), store)

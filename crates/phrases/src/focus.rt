@@ -1,38 +1,37 @@
 // A focus in words.
-ghost use Rattle.texts.specs.Behind.{Behind};
+ghost use Rattle.texts.specs.Written.{Adds};
 
-use super::number::number;
-use super::step::{Step, bad, count, decimal, one_of, past, said};
+use super::parts::{count, decimal, one_of, said};
+use super::reader::Reader;
+use texts::page::Page;
 
 // A direction, a count and whether it wraps.
-fn direction(record: &[u8], out: &mut [u8], s: Step) -> Step
-    ensures { Behind out.old out.new s.at result.at }
+fn direction(record: &mut Reader<'_>, page: &mut Page<'_>) -> Option<()>
+    ensures { Adds page.old page.new }
 {
-    let t = one_of(record, out, s, b"next", b"previous");
-    let u = count(record, out, t, b" ");
-    one_of(record, out, u, b"", b", wrapping")
+    one_of(record, page, b"next", b"previous")?;
+    count(record, page, b" ")?;
+    one_of(record, page, b"", b", wrapping")
 }
 
 // A focus.
-pub fn focus(record: &[u8], out: &mut [u8], s: Step) -> Step
-    ensures { Behind out.old out.new s.at result.at }
+pub fn focus(record: &mut Reader<'_>, page: &mut Page<'_>) -> Option<()>
+    ensures { Adds page.old page.new }
 {
-    let n = number(record, s.from);
-    let t = past(s, n);
-    match n.value {
-        0 => said(out, t, b"current"),
-        1 => decimal(record, out, t),
-        2 => direction(record, out, t),
-        3 => said(out, t, b"first"),
-        4 => said(out, t, b"last"),
-        _ => bad(t),
+    match record.number()? {
+        0 => said(page, b"current"),
+        1 => decimal(record, page),
+        2 => direction(record, page),
+        3 => said(page, b"first"),
+        4 => said(page, b"last"),
+        _ => None,
     }
 }
 
 // A focus behind a text.
-pub fn focus_behind(record: &[u8], out: &mut [u8], s: Step, lead: &[u8]) -> Step
-    ensures { Behind out.old out.new s.at result.at }
+pub fn focus_behind(record: &mut Reader<'_>, page: &mut Page<'_>, lead: &[u8]) -> Option<()>
+    ensures { Adds page.old page.new }
 {
-    let t = said(out, s, lead);
-    focus(record, out, t)
+    page.text(lead);
+    focus(record, page)
 }

@@ -1,6 +1,6 @@
 // Parts of a record in words: numbers, names, texts for numbers, a focus. Document 01, section Session, "The record".
-#![tactic(auto, using(texts::specs::BehindLaws::behind_then))]
+#![tactic(auto, using(texts::specs::WrittenLaws::adding))]
 
 pub mod focus;
-pub mod number;
-pub mod step;
+pub mod parts;
+pub mod reader;

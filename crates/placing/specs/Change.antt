@@ -1,9 +1,8 @@
 -- A word put into a table, and one taken out of it. Document 01, section Session: "Adding one again replaces it."
 -- Assumes nothing.
-use Rattle.std.specs.Prelude.{Bool, true, false, cond, not, ◌&&◌, List, [], ◌∷◌, ℕ, leb, length}
+use Rattle.std.specs.Prelude.{Bool, true, false, cond, not, ◌&&◌, List, [], ◌∷◌, ℕ, leb, length, Option, Some, None}
 use Rattle.limits.specs.Limits.{word_limit}
 use Rattle.words.specs.Words.{Row, same, lookup_in}
-use Rattle.words.specs.declared.words.Named.{Named}
 use Rattle.tables.specs.Table.{is_after, table}
 
 abbrev pub row : List ℕ → ℕ → Row
@@ -20,9 +19,9 @@ remove w [] = []
 remove w (r ∷ rs) = cond (same w r.word) rs (r ∷ remove w rs)
 
 -- a word that no row has, where there are `most` already
-abbrev is_new : Named → Bool → Bool
-is_new (Named.Command n) b = false
-is_new Named.Unknown b = b
+abbrev is_new : Option ℕ → Bool → Bool
+is_new (Some n) b = false
+is_new None b = b
 
 unfoldable pub is_full : ℕ → List Row → List ℕ → Bool
 is_full most rs w = is_new (lookup_in rs w) (leb most (length rs))
@@ -35,9 +34,9 @@ unfoldable pub inserting : ℕ → ℕ → List ℕ → ℕ → List ℕ → Lis
 inserting at most w c b = cond (has_place at most w b) ((table at most).write (insert w c ((table at most).read b)) b) b
 
 -- a row has the word; and the bytes without it, or as they were
-abbrev is_known : Named → Bool
-is_known (Named.Command n) = true
-is_known Named.Unknown = false
+abbrev is_known : Option ℕ → Bool
+is_known (Some n) = true
+is_known None = false
 
 unfoldable pub has_word : ℕ → ℕ → List ℕ → List ℕ → Bool
 has_word at most w b = is_known (lookup_in ((table at most).read b) w)

@@ -1,7 +1,7 @@
 -- Laws of a word that is put into a table: what is written where it is the first, where it is there already, where it is one more; and where
 -- there is no place for it.
 -- Assumes nothing.
-use Rattle.std.specs.Prelude.{◌≡◌, Bool, false, not, ◌&&◌, ℕ, zero, suc, ◌+◌, ◌-◌, ◌*◌, ◌<◌, ◌≤◌, ltb, drop, set}
+use Rattle.std.specs.Prelude.{◌≡◌, Bool, false, not, ◌&&◌, ℕ, zero, suc, ◌+◌, ◌-◌, ◌*◌, ◌<◌, ◌≤◌, ltb, drop, set, Option, Some, None}
 use Rattle.std.proofs.Math.Path.{refl, sym, ap}
 use Rattle.std.proofs.Common.{◌∙◌, mul-le-mul_right, length-append, length-set, get_or-take, get_or-drop}
 use Rattle.std.proofs.Math.Bool.{true, cond, and-false}
@@ -15,7 +15,6 @@ use Rattle.limits.specs.Limits.{word_limit}
 use Rattle.scan.specs.PartLaws.{part_length}
 use Rattle.scan.specs.Scan.{byte_at, part_of}
 use Rattle.words.specs.Words.{Row, same, lookup_in}
-use Rattle.words.specs.declared.words.Named.{Named}
 use Rattle.words.specs.LookupLaws.{same_refl, lookup_here}
 use Rattle.fields.specs.Field.{Bytes}
 use Rattle.fields.specs.SetsLaws.{part_behind}
@@ -35,23 +34,23 @@ use Rattle.tables.specs.FindLaws.{group_bytes}
 -- whether there is no place ----------------------------------------------------------------------------------------------------------------------------
 
 module _ (most : ℕ) (rs : List Row) (w : List ℕ) where
-  full_known : (n : ℕ) → lookup_in rs w ≡ Named.Command n → is_full most rs w ≡ false
+  full_known : (n : ℕ) → lookup_in rs w ≡ Some n → is_full most rs w ≡ false
   unfolding is_full
   full_known n e = rw e
 
-  full_new : lookup_in rs w ≡ Named.Unknown → is_full most rs w ≡ leb most (length rs)
+  full_new : lookup_in rs w ≡ None → is_full most rs w ≡ leb most (length rs)
   unfolding is_full
   full_new e = rw e
 
   full_room : length rs < most → is_full most rs w ≡ false
   full_room h = go (lookup_in rs w) refl
     where
-      go : (m : Named) → lookup_in rs w ≡ m → is_full most rs w ≡ false
-      go (Named.Command n) e = full_known n e
-      go Named.Unknown e = full_new e ∙ lt-leb most (length rs) h
+      go : (m : Option ℕ) → lookup_in rs w ≡ m → is_full most rs w ≡ false
+      go (Some n) e = full_known n e
+      go None e = full_new e ∙ lt-leb most (length rs) h
 
 -- of good rows, a word ahead of which the last of them stand is in none of these
-ahead_unknown : (w before : List ℕ) (xs ys : List Row) → good_rows before (xs ++ ys) ≡ true → ahead w ys ≡ true → lookup_in ys w ≡ Named.Unknown
+ahead_unknown : (w before : List ℕ) (xs ys : List Row) → good_rows before (xs ++ ys) ≡ true → ahead w ys ≡ true → lookup_in ys w ≡ None
 unfolding ahead lookup_in
 ahead_unknown w before [] [] g a = refl
 ahead_unknown w before [] (y ∷ ys) g a = not_later w before y ys g a
@@ -130,7 +129,7 @@ module _ (at most : ℕ) (b w : List ℕ) (c j : ℕ) (h : framed at most b ≡ 
 
     new_full : most ≤ byte_at b at → good_rows [] rows ≡ true → is_full most rows w ≡ true
     new_full l g =
-        let u : lookup_in rows w ≡ Named.Unknown =
+        let u : lookup_in rows w ≡ None =
         ap (λ v. lookup_in v w) are ∙ lookup_beyond w xs ys (first_before at most b w j h some one short e) ∙ ahead_unknown w [] xs ys (ap (good_rows []) (sym are) ∙ g) before_last in
         full_new most rows w u ∙ le-leb most (length rows) (omega (arith, (stored at most b h some).number))
 

@@ -1,7 +1,7 @@
 -- Laws of good rows: they stay good when a word is put in or taken out, what each word then leads to, and two in which every word leads to
 -- the same are the same.
 -- Assumes nothing.
-use Rattle.std.specs.Prelude.{◌≡◌, Bool, true, false, cond, ◌&&◌, ℕ, zero, suc, ◌+◌, ◌<◌, ◌≤◌, eqb, leb, ltb, length}
+use Rattle.std.specs.Prelude.{◌≡◌, Bool, true, false, cond, ◌&&◌, ℕ, zero, suc, ◌+◌, ◌<◌, ◌≤◌, eqb, leb, ltb, length, Option, Some, None}
 use Rattle.std.proofs.Math.Path.{refl}
 use Rattle.std.proofs.Common.{sym, ◌∙◌, ap, arith, eqb-true, leb-true, leb-false, ltb-true, ltb-false, ne_eqb, le-leb}
 use Rattle.std.proofs.lemmas.Bool.{false≢true, lt-leb}
@@ -11,14 +11,12 @@ use Rattle.scan.specs.Bytes.{is_word}
 use Rattle.scan.specs.RunLaws.{run_yes, run_no}
 use Rattle.scan.specs.Scan.{byte_at, run_from, run_at}
 use Rattle.words.specs.Words.{Row, same, lookup_in}
-use Rattle.words.specs.declared.words.Named.{Named}
 use Rattle.words.specs.LookupLaws.{same_eq, same_refl, lookup_here, lookup_past}
 use Rattle.fields.specs.Field.{Bytes}
 use Rattle.fields.specs.BoolLaws.{and_both, and_of}
 use Rattle.tables.specs.Table.{is_after, is_name, good_row, good_rows, good_table}
 use Rattle.placing.specs.Change.{row, insert, remove, is_full}
-use Rattle.placing.specs.AfterLaws.{same_back, after_then, after_self, after_either}
-use Rattle.placing.specs.AfterLaws.{insert_here, insert_same, insert_past, remove_here, remove_past, Side, less, alike, other, side}
+use Rattle.placing.specs.AfterLaws.{same_back, after_then, after_self, after_either, insert_here, insert_same, insert_past, remove_here, remove_past, Side, less, alike, other, side}
 use Rattle.tables.specs.OrderLaws.{after_longer}
 
 -- names are words of bytes ---------------------------------------------------------------------------------------------------------------------------
@@ -109,24 +107,24 @@ nothing_before : (w : List ℕ) → is_name w ≡ true → is_after [] w ≡ tru
 nothing_before w h = after_longer [] w (name_length w h)
 
 -- a word that stands among good rows comes after the word before them
-known_after : (w : List ℕ) (n : ℕ) (before : List ℕ) (rs : List Row) → good_rows before rs ≡ true → lookup_in rs w ≡ Named.Command n → is_after before w ≡ true
+known_after : (w : List ℕ) (n : ℕ) (before : List ℕ) (rs : List Row) → good_rows before rs ≡ true → lookup_in rs w ≡ Some n → is_after before w ≡ true
 unfolding lookup_in
 known_after w n before [] h e = let z : ◌≡◌ {A = ℕ} 0 1 = cc in absurd (omega arith)
 known_after w n before (r ∷ rs) h e = go (same w r.word) refl (known_after w n r.word rs (rows_told before r rs h).1) e
   where
-    go : (q : Bool) → same w r.word ≡ q → (lookup_in rs w ≡ Named.Command n → is_after r.word w ≡ true) → lookup_in (r ∷ rs) w ≡ Named.Command n → is_after before w ≡ true
+    go : (q : Bool) → same w r.word ≡ q → (lookup_in rs w ≡ Some n → is_after r.word w ≡ true) → lookup_in (r ∷ rs) w ≡ Some n → is_after before w ≡ true
     go true q ih f = ap (is_after before) (same_eq w r.word q) ∙ (rows_told before r rs h).0.after
     go false q ih f = after_then before r.word w (rows_told before r rs h).0.after (ih (sym (lookup_past r rs w q) ∙ f))
 
 -- so the word before them is in none, nor is one that comes before the first
-not_again : (v : List ℕ) (rs : List Row) → good_rows v rs ≡ true → lookup_in rs v ≡ Named.Unknown
+not_again : (v : List ℕ) (rs : List Row) → good_rows v rs ≡ true → lookup_in rs v ≡ None
 not_again v rs g = go (lookup_in rs v) refl
   where
-    go : (m : Named) → lookup_in rs v ≡ m → lookup_in rs v ≡ Named.Unknown
-    go Named.Unknown e = e
-    go (Named.Command n) e = absurd (false≢true (sym (after_self v) ∙ known_after v n v rs g e))
+    go : (m : Option ℕ) → lookup_in rs v ≡ m → lookup_in rs v ≡ None
+    go None e = e
+    go (Some n) e = absurd (false≢true (sym (after_self v) ∙ known_after v n v rs g e))
 
-pub not_later : (w before : List ℕ) (t : Row) (ts : List Row) → good_rows before (t ∷ ts) ≡ true → is_after w t.word ≡ true → lookup_in (t ∷ ts) w ≡ Named.Unknown
+pub not_later : (w before : List ℕ) (t : Row) (ts : List Row) → good_rows before (t ∷ ts) ≡ true → is_after w t.word ≡ true → lookup_in (t ∷ ts) w ≡ None
 not_later w before t ts g h = not_again w (t ∷ ts) (rows_good w t ts (record { after = h; named = k.0.named; leads = k.0.leads }) k.1)
   where
     k : Told before t × (good_rows t.word ts ≡ true)
@@ -169,12 +167,12 @@ insert_most w c (r ∷ rs) = go (side w r.word) (insert_most w c rs)
     go (alike e) k = omega (arith, ap length (insert_same r rs w c e))
     go (other e f) k = omega (arith, ap length (insert_past r rs w c e f))
 
-known_length : (w : List ℕ) (c n : ℕ) (before : List ℕ) (rs : List Row) → good_rows before rs ≡ true → lookup_in rs w ≡ Named.Command n → length (insert w c rs) ≡ length rs
+known_length : (w : List ℕ) (c n : ℕ) (before : List ℕ) (rs : List Row) → good_rows before rs ≡ true → lookup_in rs w ≡ Some n → length (insert w c rs) ≡ length rs
 unfolding lookup_in
 known_length w c n before [] h e = let z : ◌≡◌ {A = ℕ} 0 1 = cc in absurd (omega arith)
 known_length w c n before (r ∷ rs) h e = go (side w r.word) (known_length w c n r.word rs (rows_told before r rs h).1)
   where
-    go : Side w r.word → (lookup_in rs w ≡ Named.Command n → length (insert w c rs) ≡ length rs) → length (insert w c (r ∷ rs)) ≡ suc (length rs)
+    go : Side w r.word → (lookup_in rs w ≡ Some n → length (insert w c rs) ≡ length rs) → length (insert w c (r ∷ rs)) ≡ suc (length rs)
     go (less f) ih = let q = not_later w before r rs h f in let z : ◌≡◌ {A = ℕ} 0 1 = cc in absurd (omega arith)
     go (alike f) ih = ap length (insert_same r rs w c f)
     go (other f g) ih = ap length (insert_past r rs w c f g) ∙ ap suc (ih (sym (lookup_past r rs w g) ∙ e))
@@ -192,7 +190,7 @@ module _ (most : ℕ) (w : List ℕ) (c : ℕ) (rs : List Row) (name : is_name w
   pub insert_new : length rs < most → good_table most (insert w c rs) ≡ true
   insert_new l = still_good (omega (arith, insert_most w c rs))
 
-pub insert_known : (most : ℕ) (w : List ℕ) (c n : ℕ) (rs : List Row) → is_name w ≡ true → c ≤ last_command → good_table most rs ≡ true → lookup_in rs w ≡ Named.Command n →
+pub insert_known : (most : ℕ) (w : List ℕ) (c n : ℕ) (rs : List Row) → is_name w ≡ true → c ≤ last_command → good_table most rs ≡ true → lookup_in rs w ≡ Some n →
     good_table most (insert w c rs) ≡ true
 insert_known most w c n rs a b h e =
     let k = good_told most w c rs a b h in
@@ -203,9 +201,9 @@ pub insert_good : (most : ℕ) (w : List ℕ) (c : ℕ) (rs : List Row) → is_n
 unfolding is_full
 insert_good most w c rs a b h f = go (lookup_in rs w) refl
   where
-    go : (m : Named) → lookup_in rs w ≡ m → good_table most (insert w c rs) ≡ true
-    go (Named.Command n) e = insert_known most w c n rs a b h e
-    go Named.Unknown e =
+    go : (m : Option ℕ) → lookup_in rs w ≡ m → good_table most (insert w c rs) ≡ true
+    go (Some n) e = insert_known most w c n rs a b h e
+    go None e =
         let l : leb most (length rs) ≡ false = rw e at f in
         insert_new most w c rs a b h (leb-false most (length rs) l)
 
@@ -238,24 +236,24 @@ remove_good most w rs h =
 -- what a word leads to then --------------------------------------------------------------------------------------------------------------------------
 
 -- of any rows
-pub lookup_insert : (w v : List ℕ) (c : ℕ) (rs : List Row) → lookup_in (insert w c rs) v ≡ cond (same v w) (Named.Command c) (lookup_in rs v)
+pub lookup_insert : (w v : List ℕ) (c : ℕ) (rs : List Row) → lookup_in (insert w c rs) v ≡ cond (same v w) (Some c) (lookup_in rs v)
 unfolding insert lookup_in
 lookup_insert w v c [] = go (same v w) refl
   where
-    go : (q : Bool) → same v w ≡ q → lookup_in (row w c ∷ []) v ≡ cond q (Named.Command c) Named.Unknown
+    go : (q : Bool) → same v w ≡ q → lookup_in (row w c ∷ []) v ≡ cond q (Some c) None
     go true e = lookup_here (row w c) [] v e
     go false e = lookup_past (row w c) [] v e
 lookup_insert w v c (r ∷ rs) = go (side w r.word) (same v w) refl (lookup_insert w v c rs)
   where
-    past : (q : Bool) → same v r.word ≡ q → same w r.word ≡ false → lookup_in (insert w c rs) v ≡ cond (same v w) (Named.Command c) (lookup_in rs v) →
-        lookup_in (r ∷ insert w c rs) v ≡ cond (same v w) (Named.Command c) (lookup_in (r ∷ rs) v)
+    past : (q : Bool) → same v r.word ≡ q → same w r.word ≡ false → lookup_in (insert w c rs) v ≡ cond (same v w) (Some c) (lookup_in rs v) →
+        lookup_in (r ∷ insert w c rs) v ≡ cond (same v w) (Some c) (lookup_in (r ∷ rs) v)
     past true e f ih =
         let n : same v w ≡ false = ap (λ u. same u w) (same_eq v r.word e) ∙ same_back w r.word f in
         rw n (lookup_here r (insert w c rs) v e ∙ sym (lookup_here r rs v e))
-    past false e f ih = lookup_past r (insert w c rs) v e ∙ ih ∙ ap (λ m. cond (same v w) (Named.Command c) m) (sym (lookup_past r rs v e))
+    past false e f ih = lookup_past r (insert w c rs) v e ∙ ih ∙ ap (λ m. cond (same v w) (Some c) m) (sym (lookup_past r rs v e))
 
-    go : Side w r.word → (q : Bool) → same v w ≡ q → lookup_in (insert w c rs) v ≡ cond (same v w) (Named.Command c) (lookup_in rs v) →
-        lookup_in (insert w c (r ∷ rs)) v ≡ cond (same v w) (Named.Command c) (lookup_in (r ∷ rs) v)
+    go : Side w r.word → (q : Bool) → same v w ≡ q → lookup_in (insert w c rs) v ≡ cond (same v w) (Some c) (lookup_in rs v) →
+        lookup_in (insert w c (r ∷ rs)) v ≡ cond (same v w) (Some c) (lookup_in (r ∷ rs) v)
     go (less e) true q ih = rw (insert_here r rs w c e, q) (lookup_here (row w c) (r ∷ rs) v q)
     go (less e) false q ih = rw (insert_here r rs w c e, q) (lookup_past (row w c) (r ∷ rs) v q)
     go (alike e) true q ih = rw (insert_same r rs w c e, q) (lookup_here (row w c) rs v q)
@@ -265,17 +263,17 @@ lookup_insert w v c (r ∷ rs) = go (side w r.word) (same v w) refl (lookup_inse
     go (other e f) t q ih = ap (λ u. lookup_in u v) (insert_past r rs w c e f) ∙ past (same v r.word) refl f ih
 
 -- of good rows
-pub lookup_remove : (w v before : List ℕ) (rs : List Row) → good_rows before rs ≡ true → lookup_in (remove w rs) v ≡ cond (same v w) Named.Unknown (lookup_in rs v)
+pub lookup_remove : (w v before : List ℕ) (rs : List Row) → good_rows before rs ≡ true → lookup_in (remove w rs) v ≡ cond (same v w) None (lookup_in rs v)
 unfolding remove lookup_in
 lookup_remove w v before [] g = go (same v w)
   where
-    go : (q : Bool) → Named.Unknown ≡ cond q Named.Unknown Named.Unknown
+    go : (q : Bool) → ◌≡◌ {A = Option ℕ} None (cond q None None)
     go true = refl
     go false = refl
 lookup_remove w v before (r ∷ rs) g = go (same w r.word) refl (same v r.word) refl (lookup_remove w v r.word rs (rows_told before r rs g).1)
   where
-    go : (p : Bool) → same w r.word ≡ p → (q : Bool) → same v r.word ≡ q → lookup_in (remove w rs) v ≡ cond (same v w) Named.Unknown (lookup_in rs v) →
-        lookup_in (remove w (r ∷ rs)) v ≡ cond (same v w) Named.Unknown (lookup_in (r ∷ rs) v)
+    go : (p : Bool) → same w r.word ≡ p → (q : Bool) → same v r.word ≡ q → lookup_in (remove w rs) v ≡ cond (same v w) None (lookup_in rs v) →
+        lookup_in (remove w (r ∷ rs)) v ≡ cond (same v w) None (lookup_in (r ∷ rs) v)
     go true p true q ih =
         let e : v ≡ w = same_eq v r.word q ∙ sym (same_eq w r.word p) in
         let s : same v w ≡ true = ap (same v) (sym e) ∙ same_refl v in
@@ -287,17 +285,17 @@ lookup_remove w v before (r ∷ rs) g = go (same w r.word) refl (same v r.word) 
         let s : same v w ≡ false = ap (λ u. same u w) (same_eq v r.word q) ∙ same_back w r.word p in
         rw (remove_past r rs w p, s) (lookup_here r (remove w rs) v q ∙ sym (lookup_here r rs v q))
     go false p false q ih =
-        ap (λ u. lookup_in u v) (remove_past r rs w p) ∙ lookup_past r (remove w rs) v q ∙ ih ∙ ap (λ m. cond (same v w) Named.Unknown m) (sym (lookup_past r rs v q))
+        ap (λ u. lookup_in u v) (remove_past r rs w p) ∙ lookup_past r (remove w rs) v q ∙ ih ∙ ap (λ m. cond (same v w) None m) (sym (lookup_past r rs v q))
 
 -- rows in which every word leads to the same ---------------------------------------------------------------------------------------------------------
 
-first_leads : (r : Row) (rs : List Row) → lookup_in (r ∷ rs) r.word ≡ Named.Command r.command
+first_leads : (r : Row) (rs : List Row) → lookup_in (r ∷ rs) r.word ≡ Some r.command
 first_leads r rs = lookup_here r rs r.word (same_refl r.word)
 
 module _ (r t : Row) (rs ts : List Row) (h : (w : List ℕ) → lookup_in (r ∷ rs) w ≡ lookup_in (t ∷ ts) w) (e : r.word ≡ t.word) where
   same_command : r.command ≡ t.command
   same_command =
-      let q : Named.Command r.command ≡ Named.Command t.command =
+      let q : Some r.command ≡ Some t.command =
       sym (first_leads r rs) ∙ h r.word ∙ ap (λ w. lookup_in (t ∷ ts) w) e ∙ first_leads t ts in
       cc
 
@@ -317,11 +315,11 @@ pub same_rows : (before : List ℕ) (rs ts : List Row) → good_rows before rs �
 unfolding lookup_in
 same_rows before [] [] g k h = refl
 same_rows before [] (t ∷ ts) g k h =
-    let x : Named.Unknown ≡ Named.Command t.command = h t.word ∙ first_leads t ts in
+    let x : None ≡ Some t.command = h t.word ∙ first_leads t ts in
     let z : ◌≡◌ {A = ℕ} 0 1 = cc in
     absurd (omega arith)
 same_rows before (r ∷ rs) [] g k h =
-    let x : Named.Command r.command ≡ Named.Unknown = sym (first_leads r rs) ∙ h r.word in
+    let x : Some r.command ≡ None = sym (first_leads r rs) ∙ h r.word in
     let z : ◌≡◌ {A = ℕ} 0 1 = cc in
     absurd (omega arith)
 same_rows before (r ∷ rs) (t ∷ ts) g k h = go (side r.word t.word) (same_rows r.word rs ts)
@@ -335,12 +333,12 @@ same_rows before (r ∷ rs) (t ∷ ts) g k h = go (side r.word t.word) (same_row
     go : Side r.word t.word → (good_rows r.word rs ≡ true → good_rows r.word ts ≡ true → ((w : List ℕ) → lookup_in rs w ≡ lookup_in ts w) → rs ≡ ts) →
         r ∷ rs ≡ t ∷ ts
     go (less e) ih =
-        let x : Named.Unknown ≡ Named.Command r.command = sym (not_later r.word before t ts k e) ∙ sym (h r.word) ∙ first_leads r rs in
+        let x : None ≡ Some r.command = sym (not_later r.word before t ts k e) ∙ sym (h r.word) ∙ first_leads r rs in
         let z : ◌≡◌ {A = ℕ} 0 1 = cc in
         absurd (omega arith)
     go (other e f) ih =
         let l = after_either r.word t.word (name_bytes r.word a.0.named) (name_bytes t.word b.0.named) e f in
-        let x : Named.Unknown ≡ Named.Command t.command = sym (not_later t.word before r rs g l) ∙ h t.word ∙ first_leads t ts in
+        let x : None ≡ Some t.command = sym (not_later t.word before r rs g l) ∙ h t.word ∙ first_leads t ts in
         let z : ◌≡◌ {A = ℕ} 0 1 = cc in
         absurd (omega arith)
     go (alike o) ih =

@@ -12,8 +12,9 @@ ghost use Rattle.placing.specs.Insert.{with_first, with_new, Among, Opening, Loc
 
 use limits::WORD;
 use store::put_bytes;
-use tables::frame::{end_of, start_of};
 use tables::good::good;
+use tables::table::Table;
+use tables::word::ShortWord;
 
 // Where a word goes among others: the number of its row, the place of its bytes, and whether it is there already.
 #[derive(Clone, Copy)]
@@ -28,9 +29,7 @@ fn before(b: &[u8], q: usize, w: &[u8]) -> bool
     requires { q + length w.now ≤ length b.now }
     ensures { result ≡ ltb (number_of (part_of b.now q (q + length w.now))) (number_of w.now) }
 {
-    let mut k = w.len();
-    while 0 < k {
-        k -= 1;
+    for k in (0..w.len()).rev() {
         let x = b[q + k];
         let y = w[k];
         if x != y {
@@ -45,31 +44,25 @@ fn stands_at(b: &[u8], q: usize, w: &[u8]) -> bool
     requires { q + length w.now ≤ length b.now }
     ensures { result ≡ same_word w.now (part_of b.now q (q + length w.now)) }
 {
-    let mut k: usize = 0;
-    while k < w.len() {
+    for k in 0..w.len() {
         if b[q + k] != w[k] {
             return false;
         }
-        k += 1;
     }
     true
 }
 
 // How many of c words from q on, all as long as w, come before w without one between that does not.
 fn rank(b: &[u8], q: usize, c: usize, w: &[u8]) -> usize
-    requires w_len_bound { length w.now ≤ word_limit }
-    requires c_bound { c < 256 }
-    requires w_in_bounds { q + c * length w.now ≤ length b.now }
+    requires { q + c * length w.now ≤ length b.now }
     ensures { result ≡ rank_of c w.now (drop q b.now) }
 {
-    let mut j: usize = 0;
     let mut p = q;
-    while j < c {
+    for j in 0..c {
         if !before(b, p, w) {
             return j;
         }
-        p = p + w.len();
-        j += 1;
+        p += w.len();
     }
     c
 }
@@ -80,11 +73,7 @@ fn move_up(b: &mut [u8], from: usize, to: usize, k: usize)
     requires k_in_bounds { to + k ≤ length b.old }
     ensures { b.new ≡ sets b.old (from + k) (part_of b.old from to) }
 {
-    let mut i = to;
-    while from < i {
-        i -= 1;
-        b[i + k] = b[i];
-    }
+    b.copy_within(from..to, from + k);
 }
 
 // Writes x at `from`, and behind it the bytes from there up to `to`.
@@ -119,24 +108,21 @@ fn put_counts(b: &mut [u8], at: usize, m: usize)
     requires { at + word_limit ≤ length b.old }
     ensures { b.new ≡ sets b.old at (counts_from word_limit 1 (m ∷ [])) }
 {
-    let mut k: usize = 0;
-    while k < WORD {
+    for k in 0..WORD {
         b[at + k] = count_of_one(k + 1, m);
-        k += 1;
     }
 }
 
 // Writes the first word.
-fn put_first(b: &mut [u8], at: usize, most: usize, w: &[u8], command: u8)
+fn put_first(b: &mut [u8], at: usize, most: usize, w: &ShortWord<'_>, command: u8)
     requires most_in_bounds { table_end at most ≤ length b.old }
     requires le_most { 1 ≤ most }
-    requires w_len_bound { length w.now ≤ word_limit }
-    ensures { b.new ≡ with_first at most w.now command b.old }
+    ensures { b.new ≡ with_first at most w.now.bytes.now command b.old }
 {
     b[at] = 1;
-    put_counts(b, at + 1, w.len());
+    put_counts(b, at + 1, w.bytes.len());
     b[at + 1 + WORD] = command;
-    put_bytes(b, at + 1 + WORD + most, w);
+    put_bytes(b, at + 1 + WORD + most, w.bytes);
 }
 
 // Writes one word more, at `place`, whose command is the row-th.
@@ -147,7 +133,7 @@ fn put_new(b: &mut [u8], at: usize, most: usize, row: usize, place: usize, w: &[
     let m = w.len();
     let n = b[at];
     let x = b[at + m];
-    let end = end_of(b, at, most);
+    let end = Table { b, at, most }.end();
     b[at] = n + 1;
     b[at + m] = x + 1;
     put_one(b, at + 1 + WORD + row, at + 1 + WORD + n as usize, command);
@@ -171,8 +157,9 @@ fn spot_of(b: &[u8], at: usize, most: usize, w: &[u8]) -> Spot
     ensures { Located at most b.now w.now result.row result.place result.there }
 {
     let m = w.len();
-    let s = start_of(b, at, most, m);
-    let c = b[at + m] as usize;
+    let t = Table { b, at, most };
+    let s = t.start_of(m);
+    let c = t.count_of(m);
     let j = rank(b, s.place, c, w);
     let row = s.rows + j;
     let place = s.place + j * m;
@@ -201,26 +188,21 @@ fn insert_among(b: &mut [u8], at: usize, most: usize, w: &[u8], command: u8) -> 
 
 // Puts a word into the table at `at` with room for `most` words, if there is a place for it, and answers whether there was.
 pub fn put(b: &mut [u8], at: usize, most: usize, w: &[u8], command: u8) -> bool
-    requires most_bound { table_end at most < 2 ^ 64 }
-    requires most_bound_2 { most ≤ 255 }
+    requires most_bound { most ≤ 255 }
     requires b_value { (table at most).test b.old ≡ true }
     ensures answer { result ≡ has_place at most w.now b.old }
     ensures bytes { b.new ≡ inserting at most w.now command b.old }
 {
-    let m = w.len();
-    if m == 0 {
+    let Some(s) = ShortWord::new(w) else {
         return false;
-    }
-    if WORD < m {
-        return false;
-    }
+    };
     if b[at] != 0 {
         return insert_among(b, at, most, w, command);
     }
     if most == 0 {
         return false;
     }
-    put_first(b, at, most, w, command);
+    put_first(b, at, most, &s, command);
     true
 }
 

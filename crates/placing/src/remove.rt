@@ -8,8 +8,8 @@ ghost use Rattle.placing.specs.Change.{has_word, removing};
 ghost use Rattle.placing.specs.RemoveLaws.{taken_out};
 
 use limits::WORD;
-use tables::find::{Seat, seat_of};
-use tables::frame::end_of;
+use tables::find::seat_of;
+use tables::table::Table;
 
 // Moves the bytes from `from` up to `to` by k places down.
 fn move_down(b: &mut [u8], from: usize, to: usize, k: usize)
@@ -18,11 +18,7 @@ fn move_down(b: &mut [u8], from: usize, to: usize, k: usize)
     requires to_in_bounds { to ≤ length b.old }
     ensures { b.new ≡ sets b.old (from - k) (part_of b.old from to) }
 {
-    let mut i = from;
-    while i < to {
-        b[i - k] = b[i];
-        i += 1;
-    }
+    b.copy_within(from..to, from - k);
 }
 
 // Takes one of several rows out: its command stands at i, the last one's ends at `o`; its word of m bytes stands at p, the last one ends at e.
@@ -46,9 +42,7 @@ fn take_out(b: &mut [u8], at: usize, m: usize, i: usize, o: usize, p: usize, e: 
 
 // Takes the word out that stands in this row, its bytes from `place` on.
 fn take_word(b: &mut [u8], at: usize, most: usize, w: &[u8], row: usize, place: usize)
-    requires most_bound { table_end at most < 2 ^ 64 }
-    requires most_bound_2 { most ≤ 255 }
-    requires seated { Seated at most b.old w.now row place }
+    requires { Seated at most b.old w.now row place }
     ensures { b.new ≡ removing at most w.now b.old }
 {
     let n = b[at] as usize;
@@ -57,22 +51,19 @@ fn take_word(b: &mut [u8], at: usize, most: usize, w: &[u8], row: usize, place: 
         return;
     }
     let o = at + 1 + WORD;
-    let e = end_of(b, at, most);
+    let e = Table { b, at, most }.end();
     take_out(b, at, w.len(), o + row, o + n, place, e);
 }
 
 // Takes a word out of the table at `at` with room for `most` words, if it is there, and answers whether it was.
 pub fn remove(b: &mut [u8], at: usize, most: usize, w: &[u8]) -> bool
-    requires most_bound { table_end at most < 2 ^ 64 }
-    requires most_bound_2 { most ≤ 255 }
+    requires { table_end at most < 2 ^ 64 }
     ensures answer { result ≡ has_word at most w.now b.old }
     ensures bytes { b.new ≡ removing at most w.now b.old }
 {
-    match seat_of(b, at, most, w) {
-        Seat::Nowhere => false,
-        Seat::Row(row, place) => {
-            take_word(b, at, most, w, row, place);
-            true
-        }
-    }
+    let Some((row, place)) = seat_of(b, at, most, w) else {
+        return false;
+    };
+    take_word(b, at, most, w, row, place);
+    true
 }

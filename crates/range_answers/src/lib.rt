@@ -6,7 +6,6 @@ mod offset;
 
 use offset::put_offsets;
 use ranges::range::{MoveDir1D, RangeEnding, RangeEndingType, RangeSearchInit, RangeSpec};
-use reading::alone::RangeReply;
 use scan::part::part;
 use vectors::answer::Answer;
 
@@ -64,10 +63,10 @@ pub fn put_range(out: &mut Answer, text: &[u8], g: RangeSpec) {
 
 pub fn answer_range(text: &[u8], out: &mut Answer) {
     match reading::alone::range(text) {
-        RangeReply::Refused(x) => out.refuse(x),
-        RangeReply::Range(g) => {
+        Ok(g) => {
             out.put_number(0);
             put_range(out, text, g);
         }
+        Err(why) => out.refuse(why),
     }
 }

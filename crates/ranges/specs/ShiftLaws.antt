@@ -1,6 +1,6 @@
 -- A reader of ranges at k + i of a text answers what it answers at i of the text without its first k bytes, its positions moved by k.
 -- Assumes nothing.
-use Rattle.std.specs.Prelude.{◌≡◌, Bool, eqb, drop}
+use Rattle.std.specs.Prelude.{◌≡◌, Bool, eqb, drop, Result, Ok, Err, Some, None}
 use Rattle.std.proofs.Math.Path.{refl, ap}
 use Rattle.std.proofs.Common.{◌∙◌, sym}
 use Rattle.std.proofs.Math.Bool.{true, false}
@@ -10,27 +10,24 @@ use Rattle.std.proofs.Math.Nat.{add_assoc}
 use native.Mathlib.Omega.{arith}
 use Rattle.std.proofs.Math.Seq.{drop-drop}
 use Rattle.scan.specs.Bytes.{is_mark}
-use Rattle.scan.specs.Scan.{byte_at, digits_from, digits_at}
+use Rattle.scan.specs.Scan.{byte_at, digits_from, digits_at, Decimal}
 use Rattle.scan.specs.Shift.{shift_decimal}
 use Rattle.scan.specs.ShiftLaws.{cond_shift, eqb_shift, digits_next, byte_shift, digits_at_shift}
-use Rattle.scan.specs.declared.decimal.Decimal.{Decimal}
 use Rattle.ranges.specs.Bounds.{off_stop, off_bare, off_value, off_large}
-use Rattle.ranges.specs.Range.{escaped_atom, mark_atom, sign_atom, number_or, atom_at, is_sign, offsets_from, offsets_at, with_offsets, after_atom, ending_at, double, after_first, range_at}
+use Rattle.ranges.specs.Range.{escaped_atom, mark_atom, sign_atom, number_or, atom_at, is_sign, offsets_from, offsets_at, with_offsets, after_atom, ending_at, double, after_first, range_at, AtomRead}
 use Rattle.ranges.specs.Shift.{shift_atom, shift_offsets, shift_end, shift_ending, shift_spec, shift_range}
-use Rattle.ranges.specs.declared.range.AtomRead.{AtomRead}
-use Rattle.ranges.specs.declared.range.EndingRead.{EndingRead}
-use Rattle.ranges.specs.declared.range.OffsetsRead.{OffsetsRead}
 use Rattle.ranges.specs.declared.range.RangeEnding.{RangeEnding}
 use Rattle.ranges.specs.declared.range.RangeEndingType.{RangeEndingType}
 use Rattle.ranges.specs.declared.range.RangeSearchInit.{RangeSearchInit}
+use Rattle.limits.specs.declared.refusal.Refusal.{Refusal}
 
 module _ (k : ℕ) where
   -- atoms by their bytes
-  found_shift : (a : RangeEndingType) (i n : ℕ) → AtomRead.Found a (k + i + n) ≡ shift_atom k (AtomRead.Found a (i + n))
+  found_shift : (a : RangeEndingType) (i n : ℕ) → Ok (Some (a, k + i + n)) ≡ shift_atom k (Ok (Some (a, i + n)))
   unfolding shift_atom
-  found_shift a i n = ap (AtomRead.Found a) (add_assoc k i n)
+  found_shift a i n = ap ((λ x. Ok (Some (a, x)))) (add_assoc k i n)
 
-  absent_shift : AtomRead.Absent ≡ shift_atom k AtomRead.Absent
+  absent_shift : Ok None ≡ shift_atom k (Ok None)
   unfolding shift_atom
   absent_shift = refl
 
@@ -55,9 +52,9 @@ module _ (k : ℕ) where
 
   number_shift : (d : Decimal) (a : AtomRead) → number_or (shift_decimal k d) (shift_atom k a) ≡ shift_atom k (number_or d a)
   unfolding number_or shift_decimal shift_atom
-  number_shift Decimal.Absent a = refl
-  number_shift (Decimal.Value n j) a = refl
-  number_shift Decimal.TooLarge a = refl
+  number_shift (Ok None) a = refl
+  number_shift (Ok (Some (n, j))) a = refl
+  number_shift (Err why) a = refl
 
   -- offsets
   offsets_shift : (xs : List ℕ) (m i : ℕ) → offsets_from m (k + i) xs ≡ shift_offsets k (offsets_from m i xs)
@@ -71,27 +68,27 @@ module _ (k : ℕ) where
       go : (t : Bool) (d : Decimal) → is_sign b ≡ t → digits_from (i + 1) bs ≡ d →
           ((m : ℕ) → offsets_from m (k + i + 1) bs ≡ shift_offsets k (offsets_from m (i + 1) bs)) → offsets_from 0 (k + i) (b ∷ bs) ≡ shift_offsets k (offsets_from 0 i (b ∷ bs))
       go false d e f ih = off_stop (k + i) b bs e ∙ ap (shift_offsets k) (sym (off_stop i b bs e))
-      go true Decimal.Absent e f ih =
+      go true (Ok None) e f ih =
           off_bare (k + i) b bs e (digits_next k bs i ∙ ap (shift_decimal k) f) ∙ ih 0 ∙ ap (shift_offsets k) (sym (off_bare i b bs e f))
-      go true (Decimal.Value n j) e f ih =
+      go true (Ok (Some (n, j))) e f ih =
           let q : k + j - (k + i + 1) ≡ j - (i + 1) = omega arith in
           off_value (k + i) b bs n (k + j) e (digits_next k bs i ∙ ap (shift_decimal k) f)
           ∙ ap (λ (m : ℕ). offsets_from m (k + i + 1) bs) q
           ∙ ih (j - (i + 1))
           ∙ ap (shift_offsets k) (sym (off_value i b bs n j e f))
-      go true Decimal.TooLarge e f ih =
+      go true (Err why) e f ih =
           off_large (k + i) b bs e (digits_next k bs i ∙ ap (shift_decimal k) f) ∙ ap (shift_offsets k) (sym (off_large i b bs e f))
 
   -- ends and ranges by their parts
-  with_shift : (a : RangeEndingType) (i : ℕ) (r : OffsetsRead) → with_offsets a (k + i) (shift_offsets k r) ≡ shift_ending k (with_offsets a i r)
+  with_shift : (a : RangeEndingType) (i : ℕ) (r : Result ℕ Refusal) → with_offsets a (k + i) (shift_offsets k r) ≡ shift_ending k (with_offsets a i r)
   unfolding with_offsets shift_offsets shift_ending
-  with_shift a i (OffsetsRead.End j) = refl
-  with_shift a i OffsetsRead.TooLarge = refl
+  with_shift a i (Ok j) = refl
+  with_shift a i (Err why) = refl
 
-  double_shift : (e : RangeEnding) (p : RangeSearchInit) (r : EndingRead) → double (shift_end k e) p (shift_ending k r) ≡ shift_range k (double e p r)
+  double_shift : (e : RangeEnding) (p : RangeSearchInit) (r : Result RangeEnding Refusal) → double (shift_end k e) p (shift_ending k r) ≡ shift_range k (double e p r)
   unfolding double shift_ending shift_spec shift_range
-  double_shift e p (EndingRead.Found r) = refl
-  double_shift e p EndingRead.TooLarge = refl
+  double_shift e p (Ok r) = refl
+  double_shift e p (Err why) = refl
 
   module _ (l : List ℕ) where
     atom_at_shift : (i : ℕ) → atom_at l (k + i) ≡ shift_atom k (atom_at (drop k l) i)
@@ -106,9 +103,9 @@ module _ (k : ℕ) where
 
     after_atom_shift : (i : ℕ) (a : AtomRead) → after_atom l (k + i) (shift_atom k a) ≡ shift_ending k (after_atom (drop k l) i a)
     unfolding after_atom shift_atom shift_ending
-    after_atom_shift i AtomRead.Absent = rw (offsets_at_shift i) (with_shift RangeEndingType.Unspecified i (offsets_at (drop k l) i))
-    after_atom_shift i (AtomRead.Found a j) = rw (offsets_at_shift j) (with_shift a j (offsets_at (drop k l) j))
-    after_atom_shift i AtomRead.TooLarge = refl
+    after_atom_shift i (Ok None) = rw (offsets_at_shift i) (with_shift RangeEndingType.Unspecified i (offsets_at (drop k l) i))
+    after_atom_shift i (Ok (Some (a, j))) = rw (offsets_at_shift j) (with_shift a j (offsets_at (drop k l) j))
+    after_atom_shift i (Err why) = refl
 
     ending_at_shift : (i : ℕ) → ending_at l (k + i) ≡ shift_ending k (ending_at (drop k l) i)
     unfolding ending_at
@@ -117,10 +114,10 @@ module _ (k : ℕ) where
     ending_next : (i : ℕ) → ending_at l (k + i + 1) ≡ shift_ending k (ending_at (drop k l) (i + 1))
     ending_next i = ap (ending_at l) (add_assoc k i 1) ∙ ending_at_shift (i + 1)
 
-    after_first_shift : (i : ℕ) (r : EndingRead) → after_first l (k + i) (shift_ending k r) ≡ shift_range k (after_first (drop k l) i r)
+    after_first_shift : (i : ℕ) (r : Result RangeEnding Refusal) → after_first l (k + i) (shift_ending k r) ≡ shift_range k (after_first (drop k l) i r)
     unfolding after_first shift_ending shift_spec shift_range
-    after_first_shift i EndingRead.TooLarge = refl
-    after_first_shift i (EndingRead.Found e) =
+    after_first_shift i (Err why) = refl
+    after_first_shift i (Ok e) =
         rw (byte_shift k l e.to, ending_next e.to, eqb_shift k e.to i)
         (cond_shift (shift_range k) (eqb (byte_at (drop k l) e.to) 0x2C) (double_shift e RangeSearchInit.Cursor (ending_at (drop k l) (e.to + 1)))
         (cond_shift (shift_range k) (eqb (byte_at (drop k l) e.to) 0x3B) (double_shift e RangeSearchInit.Start (ending_at (drop k l) (e.to + 1)))

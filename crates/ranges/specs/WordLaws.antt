@@ -1,6 +1,6 @@
 -- Where a word starts, there is no range.
 -- Assumes nothing.
-use Rattle.std.specs.Prelude.{◌≡◌, Bool, List, ◌∷◌, ℕ, ◌+◌, ◌<◌, eqb, drop}
+use Rattle.std.specs.Prelude.{◌≡◌, Bool, List, ◌∷◌, ℕ, ◌+◌, ◌<◌, eqb, drop, Ok, None}
 use Rattle.std.proofs.Math.Path.{refl}
 use Rattle.std.proofs.Common.{◌∙◌, sym, ap, arith}
 use Rattle.std.proofs.Math.Bool.{true, false}
@@ -12,10 +12,7 @@ use Rattle.scan.specs.Bytes.{is_word, is_digit}
 use Rattle.scan.specs.Scan.{run_at, byte_at, digits_from, digits_at}
 use Rattle.scan.specs.RunLaws.{drop_step, run_at_off}
 use Rattle.scan.specs.DigitsLaws.{digital}
-use Rattle.scan.specs.declared.decimal.Decimal.{Decimal}
 use Rattle.ranges.specs.Range.{is_sign, sign_atom, number_or, atom_at, offsets_from, offsets_at, with_offsets, after_atom, ending_at, after_first, range_at}
-use Rattle.ranges.specs.declared.range.OffsetsRead.{OffsetsRead}
-use Rattle.ranges.specs.declared.range.RangeRead.{RangeRead}
 
 module _ (b : ℕ) (w : is_word b ≡ true) where
   -- a word's byte is none that is not a word's
@@ -52,7 +49,7 @@ module _ (b : ℕ) (w : is_word b ≡ true) where
   no_sign = rw (other 0x2B refl, other 0x2D refl)
 
 -- offsets end before a byte that is no sign
-offsets_off : (i b : ℕ) (bs : List ℕ) → is_sign b ≡ false → offsets_from 0 i (b ∷ bs) ≡ OffsetsRead.End i
+offsets_off : (i b : ℕ) (bs : List ℕ) → is_sign b ≡ false → offsets_from 0 i (b ∷ bs) ≡ Ok i
 unfolding offsets_from
 offsets_off i b bs h = rw (h, offsets_from)
 
@@ -65,15 +62,15 @@ module _ (s : List ℕ) (i : ℕ) (w : is_word (byte_at s i) ≡ true) where
       go (yes p) = p
       go (no p) = absurd (false≢true (sym (ap is_word (get_or-eq_default s 0 (omega arith))) ∙ w))
 
-  digits_word : digits_at s i ≡ Decimal.Absent
+  digits_word : digits_at s i ≡ Ok None
   unfolding digits_at digits_from run_at
   digits_word = rw (eq-eqb _ _ (run_at_off is_digit s i word_inside (no_digit (byte_at s i) w)))
 
-  offsets_word : offsets_at s i ≡ OffsetsRead.End i
+  offsets_word : offsets_at s i ≡ Ok i
   unfolding offsets_at
   offsets_word = rw (drop_step s i word_inside) (offsets_off i (byte_at s i) (drop (i + 1) s) (no_sign (byte_at s i) w))
 
-  pub range_word : range_at s i ≡ RangeRead.Absent
+  pub range_word : range_at s i ≡ Ok None
   unfolding range_at ending_at atom_at number_or sign_atom after_atom with_offsets after_first is_word
   range_word =
       rw (

@@ -43,8 +43,8 @@ pub fn range_again(g: RangeRead) -> RangeRead
     ensures { result ≡ g }
 {
     match g {
-        RangeRead::Found(x, j) => RangeRead::Found(spec_again(x), j),
-        RangeRead::Absent => RangeRead::Absent,
-        RangeRead::TooLarge => RangeRead::TooLarge,
+        Ok(Some((x, j))) => Ok(Some((spec_again(x), j))),
+        Ok(None) => Ok(None),
+        Err(why) => Err(why),
     }
 }

@@ -5,8 +5,9 @@ ghost use Rattle.ranges.specs.Offset.{offset_at};
 ghost use Rattle.ranges.specs.Range.{escaped_atom, mark_atom, sign_atom, atom_at, is_sign, offsets_at, with_offsets, ending_at, double as double_of, range_at, whole_of, whole_range};
 
 use super::again::ending_again;
+use limits::refusal::Refusal;
 use scan::classes::{Class, Mark, Word};
-use scan::decimal::{Decimal, digits, is_digit, many_digits};
+use scan::decimal::{digits, is_digit, many_digits};
 use scan::part::{byte_at, text_again};
 
 // How long a text is where offsets may be many.
@@ -31,27 +32,11 @@ pub enum RangeEndingType {
     Mark(u8),
 }
 
-// An atom and the position past it.
-#[derive(Clone, Copy)]
-pub enum AtomRead {
-    Absent,
-    Found(RangeEndingType, usize),
-    TooLarge,
-}
+// An atom and the position past it, if there is one; or what its number is refused for.
+pub type AtomRead = Result<Option<(RangeEndingType, usize)>, Refusal>;
 
-// An offset behind its sign: its size, the position past it, and the byte there.
-#[derive(Clone, Copy)]
-pub enum Offset {
-    Is(u64, usize, u8),
-    TooLarge,
-}
-
-// The position past the offsets.
-#[derive(Clone, Copy)]
-pub enum OffsetsRead {
-    End(usize),
-    TooLarge,
-}
+// An offset behind its sign: its size, the position past it, and the byte there; or what its number is refused for.
+pub type Offset = Result<(u64, usize, u8), Refusal>;
 
 // An end: its offsets stand from `from` up to `to`.
 #[derive(Clone, Copy)]
@@ -59,12 +44,6 @@ pub struct RangeEnding {
     pub atom: RangeEndingType,
     pub from: usize,
     pub to: usize,
-}
-
-#[derive(Clone, Copy)]
-pub enum EndingRead {
-    Found(RangeEnding),
-    TooLarge,
 }
 
 // The separator: `,` is Cursor, `;` is Start.
@@ -80,21 +59,11 @@ pub enum RangeSpec {
     Double(RangeEnding, RangeEnding, RangeSearchInit),
 }
 
-// A range and the position past it.
-#[derive(Clone, Copy)]
-pub enum RangeRead {
-    Absent,
-    Found(RangeSpec, usize),
-    TooLarge,
-}
+// A range and the position past it, if there is one; or what a number of it is refused for.
+pub type RangeRead = Result<Option<(RangeSpec, usize)>, Refusal>;
 
-// A whole text read as a range.
-#[derive(Clone, Copy)]
-pub enum WholeRead {
-    Range(RangeSpec),
-    Bad,
-    TooLarge,
-}
+// The range that a whole text is, if it is one; or what a number of it is refused for.
+pub type WholeRead = Result<Option<RangeSpec>, Refusal>;
 
 pub fn is_sign(b: u8) -> bool
     ensures { result ≡ is_sign b }
@@ -108,17 +77,16 @@ pub fn offset_at(s: &[u8], at: usize) -> Offset
 {
     let b = byte_at(s, at);
     if !is_digit(b) {
-        return Offset::Is(1, at, b);
+        return Ok((1, at, b));
     }
     let i = at + 1;
     let c = byte_at(s, i);
     if !is_digit(c) {
-        return Offset::Is((b - 0x30) as u64, i, c);
+        return Ok(((b - 0x30) as u64, i, c));
     }
-    match many_digits(s, at) {
-        Decimal::Value(n, j) => Offset::Is(n, j, byte_at(s, j)),
-        Decimal::TooLarge => Offset::TooLarge,
-        Decimal::Absent => Offset::Is(1, at, b),
+    match many_digits(s, at)? {
+        Some((n, j)) => Ok((n, j, byte_at(s, j))),
+        None => Ok((1, at, b)),
     }
 }
 
@@ -134,6 +102,7 @@ fn past_pairs(s: &[u8], at: usize) -> usize
     }
     let last = s.len() - 2;
     let mut i = at;
+    // By two bytes, left at the first that are no offset of one digit: a `for` would count the pairs beside the place.
     while i < last {
         if !is_digit(s[i + 1]) {
             return i;
@@ -146,19 +115,18 @@ fn past_pairs(s: &[u8], at: usize) -> usize
     i
 }
 
-// The position past the offsets that start at `at`.
-fn parse_range_modifiers(s: &[u8], at: usize) -> OffsetsRead
+// The position past the offsets that start at `at`, or what a number of them is refused for.
+fn parse_range_modifiers(s: &[u8], at: usize) -> Result<usize, Refusal>
     ensures { result ≡ offsets_at s.now at }
 {
     let mut i = past_pairs(s, at);
     let mut b = byte_at(s, i);
+    // Each offset says where the next one starts.
     loop {
         if !is_sign(b) {
-            return OffsetsRead::End(i);
+            return Ok(i);
         }
-        let Offset::Is(_, j, c) = offset_at(s, i + 1) else {
-            return OffsetsRead::TooLarge;
-        };
+        let (_, j, c) = offset_at(s, i + 1)?;
         i = j;
         b = c;
     }
@@ -170,10 +138,10 @@ fn parse_range_search(i: usize, b: u8) -> AtomRead
     ensures { result ≡ escaped_atom i b }
 {
     match b {
-        0x2F => AtomRead::Found(RangeEndingType::Search(MoveDir1D::Next), i + 2),
-        0x3F => AtomRead::Found(RangeEndingType::Search(MoveDir1D::Previous), i + 2),
-        0x26 => AtomRead::Found(RangeEndingType::SubPatSearch, i + 2),
-        _ => AtomRead::Absent,
+        0x2F => Ok(Some((RangeEndingType::Search(MoveDir1D::Next), i + 2))),
+        0x3F => Ok(Some((RangeEndingType::Search(MoveDir1D::Previous), i + 2))),
+        0x26 => Ok(Some((RangeEndingType::SubPatSearch, i + 2))),
+        _ => Ok(None),
     }
 }
 
@@ -183,9 +151,9 @@ fn parse_range_mark(i: usize, b: u8) -> AtomRead
     ensures { result ≡ mark_atom i b }
 {
     if Mark::has(b) {
-        AtomRead::Found(RangeEndingType::Mark(b), i + 2)
+        Ok(Some((RangeEndingType::Mark(b), i + 2)))
     } else {
-        AtomRead::Absent
+        Ok(None)
     }
 }
 
@@ -195,70 +163,69 @@ fn parse_range_sign(i: usize, b: u8, d: u8) -> AtomRead
     ensures { result ≡ sign_atom i b d }
 {
     match b {
-        0x2E => AtomRead::Found(RangeEndingType::Current, i + 1),
-        0x25 => AtomRead::Found(RangeEndingType::All, i + 1),
-        0x24 => AtomRead::Found(RangeEndingType::Last, i + 1),
+        0x2E => Ok(Some((RangeEndingType::Current, i + 1))),
+        0x25 => Ok(Some((RangeEndingType::All, i + 1))),
+        0x24 => Ok(Some((RangeEndingType::Last, i + 1))),
         0x5C => parse_range_search(i, d),
         0x27 => parse_range_mark(i, d),
-        _ => AtomRead::Absent,
+        _ => Ok(None),
     }
 }
 
 // The atom at `at`, if there is one.
+#[tactic(auto, unfolding(crate::specs::Range::atom_at, crate::specs::Range::number_or))]
 fn parse_range_atom(s: &[u8], at: usize) -> AtomRead
     ensures { result ≡ atom_at s.now at }
 {
-    match digits(text_again(s), at) {
-        Decimal::Value(n, next) => AtomRead::Found(RangeEndingType::Absolute(n), next),
-        Decimal::TooLarge => AtomRead::TooLarge,
-        Decimal::Absent => {
+    match digits(text_again(s), at)? {
+        Some((n, next)) => Ok(Some((RangeEndingType::Absolute(n), next))),
+        None => {
             if at < s.len() {
                 parse_range_sign(at, s[at], byte_at(s, at + 1))
             } else {
-                AtomRead::Absent
+                Ok(None)
             }
         }
     }
 }
 
-fn with_offsets(a: RangeEndingType, i: usize, o: OffsetsRead) -> EndingRead
+#[tactic(auto, unfolding(crate::specs::Range::with_offsets))]
+fn with_offsets(
+    a: RangeEndingType,
+    i: usize,
+    o: Result<usize, Refusal>,
+) -> Result<RangeEnding, Refusal>
     ensures { result ≡ with_offsets a i o }
 {
-    match o {
-        OffsetsRead::End(j) => EndingRead::Found(RangeEnding {
-            atom: a,
-            from: i,
-            to: j,
-        }),
-        OffsetsRead::TooLarge => EndingRead::TooLarge,
-    }
+    Ok(RangeEnding {
+        atom: a,
+        from: i,
+        to: o?,
+    })
 }
 
 // The end of a range at `at`: nothing of the text where there is no atom and no offset.
-fn parse_range_ending(s: &[u8], at: usize) -> EndingRead
+#[tactic(auto, unfolding(crate::specs::Range::ending_at, crate::specs::Range::after_atom))]
+fn parse_range_ending(s: &[u8], at: usize) -> Result<RangeEnding, Refusal>
     ensures { result ≡ ending_at s.now at }
 {
-    match parse_range_atom(s, at) {
-        AtomRead::Absent => with_offsets(
+    match parse_range_atom(s, at)? {
+        None => with_offsets(
             RangeEndingType::Unspecified,
             at,
             parse_range_modifiers(text_again(s), at),
         ),
-        AtomRead::Found(a, j) => with_offsets(a, j, parse_range_modifiers(text_again(s), j)),
-        AtomRead::TooLarge => EndingRead::TooLarge,
+        Some((a, j)) => with_offsets(a, j, parse_range_modifiers(text_again(s), j)),
     }
 }
 
-fn double(l: RangeEnding, p: RangeSearchInit, r: EndingRead) -> RangeRead
+#[tactic(auto, unfolding(crate::specs::Range::double))]
+fn double(l: RangeEnding, p: RangeSearchInit, r: Result<RangeEnding, Refusal>) -> RangeRead
     ensures { result ≡ double_of l p r }
 {
-    match r {
-        EndingRead::Found(e) => {
-            let to = e.to;
-            RangeRead::Found(RangeSpec::Double(l, e, p), to)
-        }
-        EndingRead::TooLarge => RangeRead::TooLarge,
-    }
+    let e = r?;
+    let to = e.to;
+    Ok(Some((RangeSpec::Double(l, e, p), to)))
 }
 
 // Whether a byte parts two ends.
@@ -282,18 +249,16 @@ fn parse_range_sep(b: u8) -> RangeSearchInit
 pub fn parse_any_range(s: &[u8], at: usize) -> RangeRead
     ensures { result ≡ range_at s.now at }
 {
-    let EndingRead::Found(l) = parse_range_ending(s, at) else {
-        return RangeRead::TooLarge;
-    };
+    let l = parse_range_ending(s, at)?;
     let to = l.to;
     let b = byte_at(s, to);
     if parts(b) {
         return double(l, parse_range_sep(b), parse_range_ending(s, to + 1));
     }
     if to == at {
-        RangeRead::Absent
+        Ok(None)
     } else {
-        RangeRead::Found(RangeSpec::Single(ending_again(l)), to)
+        Ok(Some((RangeSpec::Single(ending_again(l)), to)))
     }
 }
 
@@ -302,24 +267,18 @@ pub fn parse_range(s: &[u8], at: usize) -> RangeRead
     ensures { result ≡ range_at s.now at }
 {
     if Word::has(byte_at(s, at)) {
-        return RangeRead::Absent;
+        return Ok(None);
     }
     parse_any_range(s, at)
 }
 
+#[tactic(auto, unfolding(crate::specs::Range::whole_of))]
 fn whole(n: usize, g: RangeRead) -> WholeRead
     ensures { result ≡ whole_of n g }
 {
-    match g {
-        RangeRead::Found(x, j) => {
-            if j == n {
-                WholeRead::Range(x)
-            } else {
-                WholeRead::Bad
-            }
-        }
-        RangeRead::Absent => WholeRead::Bad,
-        RangeRead::TooLarge => WholeRead::TooLarge,
+    match g? {
+        Some((x, j)) => { if j == n { Ok(Some(x)) } else { Ok(None) } }
+        None => Ok(None),
     }
 }
 

@@ -9,5 +9,4 @@ pub mod Behind
 pub mod Shift
 pub mod ShiftLaws
 pub mod Checks
-pub mod AloneLaws
 pub mod Samples

@@ -1,33 +1,37 @@
 -- Worked examples of document 01's section Reading, and of the readings called alone: each holds by computation over the definitions.
 -- Assumes nothing.
-use Rattle.std.specs.Prelude.{◌≡◌, refl, Bool, true, false, List, [], ◌∷◌, ℕ, replicate}
+use Rattle.std.specs.Prelude.{◌≡◌, refl, Bool, true, false, List, [], ◌∷◌, ℕ, replicate, Ok, Err}
 use Prim.Native.String.{String}
+use Rattle.limits.specs.declared.refusal.Refusal.{Refusal}
 use Rattle.scan.specs.Ascii.{ascii}
 use Rattle.scan.specs.Bytes.{is_space, is_colon, is_digit, is_word, is_mark, is_text, is_plain, is_quoted}
 use Rattle.scan.specs.Scan.{run_from, run_at, value_from, digits_from, digits_at, part_of}
 use Rattle.utf8.specs.Utf8.{is_utf8, utf8_at, utf8_from, utf8_step, followers, lowest, highest}
 use Rattle.ranges.specs.Range.{is_sign, escaped_atom, mark_atom, sign_atom, number_or, atom_at, offsets_from, offsets_at, with_offsets, after_atom, ending_at, double, after_first, range_at, whole_of, whole_range}
 use Rattle.lists.specs.Text.{quoted_escape, plain_escape, escape_of, own, stop_at, text_end_from, text_end_at, bytes_from, bytes_at}
-use Rattle.lists.specs.Lists.{item_of, item_at, text_at, also, items_from, items_at, items_of, Filename, lone, filename_of, Option, key_of, after_key, plus_plus, flag_of, option_of, is_empty, keyless, any_keyless}
+use Rattle.lists.specs.Lists.{item_of, item_at, text_at, also, items_from, items_at, items_of, Filename, lone, filename_of, OptionItem, key_of, after_key, plus_plus, flag_of, option_of, is_empty, keyless, any_keyless}
 use Rattle.reading.specs.Line.{skip_byte, word_at, rest_at, after_word, after_range, start_of, reading_of}
 use Rattle.reading.specs.Told.{Direction, direction_told, Atom, atom_told, ToldEnd, end_told, Separator, separator_told, ToldRange, spec_told}
 use Rattle.reading.specs.Alone.{Answer, Ranged, check_for, checked_for, item_at_place, list_answer, filenames_alone, strings_alone, options_answer, options_alone, range_answer, range_alone}
-use Rattle.reading.specs.declared.line.CommandRead.{CommandRead}
 
 -- readings: the word, the bang and the argument as bytes ---------------------------------------------------------------------------
 
 data Said : Type 0 where
   says : List ℕ → Bool → List ℕ → Said
-  fails : Said
-  too_large : Said
+  refuses : Refusal → Said
+
+abbrev fails : Said
+fails = refuses Refusal.ParseFailed
+
+abbrev too_large : Said
+too_large = refuses Refusal.NumberTooLarge
 
 said : String → Said
 unfolding is_space is_colon is_digit is_word is_mark is_text run_from run_at value_from digits_from digits_at is_sign escaped_atom mark_atom sign_atom number_or atom_at offsets_from offsets_at with_offsets after_atom ending_at double after_first range_at skip_byte word_at rest_at after_word after_range start_of reading_of
 said t =
     elim (reading_of (ascii t)) [
-      | CommandRead.Command c ↦ says (part_of (ascii t) c.word c.end) c.bang (part_of (ascii t) c.argument c.stop)
-      | CommandRead.Failed ↦ fails
-      | CommandRead.TooLarge ↦ too_large
+      | Ok c ↦ says (part_of (ascii t) c.word c.end) c.bang (part_of (ascii t) c.argument c.stop)
+      | Err why ↦ refuses why
     ]
 
 -- a text that says its word, with no bang, and its argument
@@ -143,16 +147,16 @@ filenames : (filename "# %\t\\# \"#\" #a" 0 ≡ Answer.item 5 Filename.alternate
 unfolding filename
 filenames = (refl, refl, refl, refl, refl, refl)
 
-option : String → ℕ → Answer Option
+option : String → ℕ → Answer OptionItem
 unfolding is_space is_plain is_quoted run_from run_at quoted_escape plain_escape escape_of own stop_at text_end_from text_end_at bytes_from bytes_at item_of item_at text_at also items_from items_at items_of key_of after_key plus_plus flag_of option_of is_empty keyless any_keyless check_for checked_for item_at_place options_answer options_alone is_utf8 utf8_at utf8_from utf8_step followers lowest highest
 option t place = options_alone (ascii t) place 1064
 
-options : (option "x ++k ++k= ++k=v=w +++ \"++k=v w\"" 0 ≡ Answer.item 6 (Option.positional (ascii "x")))
-    × (option "x ++k ++k= ++k=v=w +++ \"++k=v w\"" 1 ≡ Answer.item 6 (Option.flag (ascii "k")))
-    × (option "x ++k ++k= ++k=v=w +++ \"++k=v w\"" 2 ≡ Answer.item 6 (Option.valued (ascii "k") []))
-    × (option "x ++k ++k= ++k=v=w +++ \"++k=v w\"" 3 ≡ Answer.item 6 (Option.valued (ascii "k") (ascii "v=w")))
-    × (option "x ++k ++k= ++k=v=w +++ \"++k=v w\"" 4 ≡ Answer.item 6 (Option.flag (ascii "+")))
-    × (option "x ++k ++k= ++k=v=w +++ \"++k=v w\"" 5 ≡ Answer.item 6 (Option.valued (ascii "k") (ascii "v w")))
+options : (option "x ++k ++k= ++k=v=w +++ \"++k=v w\"" 0 ≡ Answer.item 6 (OptionItem.positional (ascii "x")))
+    × (option "x ++k ++k= ++k=v=w +++ \"++k=v w\"" 1 ≡ Answer.item 6 (OptionItem.flag (ascii "k")))
+    × (option "x ++k ++k= ++k=v=w +++ \"++k=v w\"" 2 ≡ Answer.item 6 (OptionItem.valued (ascii "k") []))
+    × (option "x ++k ++k= ++k=v=w +++ \"++k=v w\"" 3 ≡ Answer.item 6 (OptionItem.valued (ascii "k") (ascii "v=w")))
+    × (option "x ++k ++k= ++k=v=w +++ \"++k=v w\"" 4 ≡ Answer.item 6 (OptionItem.flag (ascii "+")))
+    × (option "x ++k ++k= ++k=v=w +++ \"++k=v w\"" 5 ≡ Answer.item 6 (OptionItem.valued (ascii "k") (ascii "v w")))
     × (option "a ++=" 0 ≡ Answer.refused 5)
     × (option "++ a" 7 ≡ Answer.refused 5)
     × (option "++= \"" 0 ≡ Answer.refused 3)

@@ -1,14 +1,13 @@
 -- Positions moved: a reading, in the positions of a text with k bytes more in front.
 -- Assumes nothing.
-use Rattle.std.specs.Prelude.{ℕ, ◌+◌}
+use Rattle.std.specs.Prelude.{ℕ, ◌+◌, Ok, Err, Option, Some, None}
 use Rattle.ranges.specs.Shift.{shift_range}
 use Rattle.reading.specs.declared.line.CommandDescription.{CommandDescription}
-use Rattle.reading.specs.declared.line.CommandRead.{CommandRead}
-use Rattle.reading.specs.declared.line.WordRead.{WordRead}
+use Rattle.reading.specs.Line.{CommandRead}
 
-unfoldable pub shift_word : ℕ → WordRead → WordRead
-shift_word k (WordRead.Word j m) = WordRead.Word (k + j) (k + m)
-shift_word k WordRead.Bad = WordRead.Bad
+unfoldable pub shift_word : ℕ → Option (ℕ × ℕ) → Option (ℕ × ℕ)
+shift_word k (Some (j, m)) = Some (k + j, k + m)
+shift_word k None = None
 
 abbrev pub shift_command : ℕ → CommandDescription → CommandDescription
 shift_command k d =
@@ -22,6 +21,5 @@ shift_command k d =
     }
 
 unfoldable pub shift_reading : ℕ → CommandRead → CommandRead
-shift_reading k (CommandRead.Command d) = CommandRead.Command (shift_command k d)
-shift_reading k CommandRead.Failed = CommandRead.Failed
-shift_reading k CommandRead.TooLarge = CommandRead.TooLarge
+shift_reading k (Ok d) = Ok (shift_command k d)
+shift_reading k (Err why) = Err why

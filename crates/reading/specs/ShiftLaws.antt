@@ -1,6 +1,6 @@
 -- A text that starts with spaces is read as the text without them, its positions moved.
 -- Assumes nothing.
-use Rattle.std.specs.Prelude.{◌≡◌, List, ℕ, ◌+◌, ◌≤◌, eqb, leb, length}
+use Rattle.std.specs.Prelude.{◌≡◌, List, ℕ, ◌+◌, ◌≤◌, eqb, leb, length, Ok, Err, Option, Some, None}
 use Rattle.std.proofs.Math.Path.{refl, sym, ap}
 use Rattle.std.proofs.Common.{◌∙◌, length-drop}
 use Rattle.std.proofs.Math.Nat.{add_assoc}
@@ -10,14 +10,12 @@ use Rattle.scan.specs.Bytes.{is_space, is_colon, is_word, is_text}
 use Rattle.scan.specs.RunLaws.{run_at_later, run_at_within}
 use Rattle.scan.specs.Scan.{run_at, byte_at}
 use Rattle.scan.specs.ShiftLaws.{cond_shift, eqb_shift, byte_shift, part_shift, length_shift, run_at_shift}
-use Rattle.ranges.specs.Range.{range_at}
+use Rattle.ranges.specs.Range.{range_at, RangeRead}
 use Rattle.ranges.specs.Shift.{shift_range}
 use Rattle.ranges.specs.ShiftLaws.{range_at_shift}
-use Rattle.ranges.specs.declared.range.RangeRead.{RangeRead}
 use Rattle.reading.specs.Line.{skip_byte, word_at, rest_at, after_word, after_range, start_of, reading_of, argument_of}
 use Rattle.reading.specs.Shift.{shift_word, shift_command, shift_reading}
 use Rattle.reading.specs.declared.line.CommandDescription.{CommandDescription}
-use Rattle.reading.specs.declared.line.WordRead.{WordRead}
 
 module _ (k : ℕ) (l : List ℕ) where
   -- past one byte
@@ -56,16 +54,16 @@ module _ (k : ℕ) (l : List ℕ) where
         rw (run_at_shift k l is_space b, run_at_shift k l is_text a, skip_shift e 0x0A, inside, eqb_shift k (skip_byte t e 0x0A) (length t), eqb_shift k b m)
         (cond_shift (shift_reading k) (eqb (skip_byte t e 0x0A) (length t)) refl refl)
 
-    after_word_shift : (g : RangeRead) (i : ℕ) (w : WordRead) → after_word l (shift_range k g) (k + i) (shift_word k w) ≡ shift_reading k (after_word (drop k l) g i w)
+    after_word_shift : (g : RangeRead) (i : ℕ) (w : Option (ℕ × ℕ)) → after_word l (shift_range k g) (k + i) (shift_word k w) ≡ shift_reading k (after_word (drop k l) g i w)
     unfolding after_word shift_word shift_reading
-    after_word_shift g i (WordRead.Word j m) = rw (skip_shift m 0x21) (rest_shift g i j m (skip_byte (drop k l) m 0x21))
-    after_word_shift g i WordRead.Bad = refl
+    after_word_shift g i (Some (j, m)) = rw (skip_shift m 0x21) (rest_shift g i j m (skip_byte (drop k l) m 0x21))
+    after_word_shift g i None = refl
 
     after_range_shift : (i : ℕ) (g : RangeRead) → after_range l (k + i) (shift_range k g) ≡ shift_reading k (after_range (drop k l) i g)
     unfolding after_range shift_range shift_reading
-    after_range_shift i RangeRead.Absent = rw (word_shift i) (after_word_shift RangeRead.Absent i (word_at (drop k l) i))
-    after_range_shift i (RangeRead.Found g j) = rw (word_shift j) (after_word_shift (RangeRead.Found g j) j (word_at (drop k l) j))
-    after_range_shift i RangeRead.TooLarge = refl
+    after_range_shift i (Ok None) = rw (word_shift i) (after_word_shift (Ok None) i (word_at (drop k l) i))
+    after_range_shift i (Ok (Some (g, j))) = rw (word_shift j) (after_word_shift (Ok (Some (g, j))) j (word_at (drop k l) j))
+    after_range_shift i (Err why) = refl
 
     -- where the range or the word stands
     start_shift : start_of l ≡ k + start_of (drop k l)

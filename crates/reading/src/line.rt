@@ -8,25 +8,12 @@ ghost use Rattle.reading.specs.WordPlaces.{word_place};
 
 use blocks::run::{skip_spaces, word_end};
 use blocks::text::text_stop;
+use limits::refusal::Refusal;
 use ranges::again::range_again;
 use ranges::range::{RangeRead, parse_range};
 use scan::classes::{Class, Colon, Text, Word};
 use scan::part::{byte_at, part};
 use scan::run::run_end;
-
-// Where a word ends, and where the reading goes on.
-#[derive(Clone, Copy)]
-pub enum WordRead {
-    Word(usize, usize),
-    Bad,
-}
-
-// Where a word must stand, or that the range before it has a number that is too large.
-#[derive(Clone, Copy)]
-pub enum WordPlace {
-    At(usize),
-    TooLarge,
-}
 
 // What a text says: its range, where its word and its argument start and end, and whether it has a bang.
 #[derive(Clone, Copy)]
@@ -39,12 +26,8 @@ pub struct CommandDescription {
     pub stop: usize,
 }
 
-#[derive(Clone, Copy)]
-pub enum CommandRead {
-    Command(CommandDescription),
-    Failed,
-    TooLarge,
-}
+// A reading, or why there is none: the text fails, or has a number that is too large.
+pub type CommandRead = Result<CommandDescription, Refusal>;
 
 pub fn skip_byte(s: &[u8], i: usize, b: u8) -> usize
     requires { 0 < b }
@@ -56,25 +39,25 @@ pub fn skip_byte(s: &[u8], i: usize, b: u8) -> usize
     i
 }
 
-// The word at `at`: `!` alone, or a run of word characters, or empty.
-pub fn parse_cmd_name(s: &[u8], at: usize) -> WordRead
+// The word at `at`, `!` alone, or a run of word characters, or empty: where it ends, and where the reading goes on.
+pub fn parse_cmd_name(s: &[u8], at: usize) -> Option<(usize, usize)>
     ensures { result ≡ word_at s.now at }
 {
     let b = byte_at(s, at);
     if b == 0x21 {
-        return WordRead::Word(at + 1, at + 1);
+        return Some((at + 1, at + 1));
     }
     let e = word_end(s, at);
     if e == at {
         if s.len() <= at {
-            return WordRead::Word(at, at);
+            return Some((at, at));
         }
         if b == 0x0A {
-            return WordRead::Word(at, at + 1);
+            return Some((at, at + 1));
         }
-        return WordRead::Bad;
+        return None;
     }
-    WordRead::Word(e, e)
+    Some((e, e))
 }
 
 // The same description, its range taken apart and put together again, so that its parts travel in registers.
@@ -119,7 +102,7 @@ fn parse_cmd_argument(
     let a = skip_spaces(s, b);
     let e = text_from(s, a, stop);
     if skip_byte(s, e, 0x0A) == s.len() {
-        return CommandRead::Command(CommandDescription {
+        return Ok(CommandDescription {
             range: range_again(range),
             word: word,
             end: end,
@@ -128,18 +111,17 @@ fn parse_cmd_argument(
             stop: e,
         });
     }
-    CommandRead::Failed
+    Err(Refusal::ParseFailed)
 }
 
 // The word and what follows it.
+#[tactic(auto, unfolding(crate::specs::Line::after_word))]
 fn parse_cmd_after_range(s: &[u8], range: RangeRead, at: usize, stop: usize) -> CommandRead
     requires { stop ≡ run_at is_text s.now 0 }
     ensures { result ≡ after_word s.now range at (word_at s.now at) }
 {
-    match parse_cmd_name(s, at) {
-        WordRead::Word(end, next) => parse_cmd_argument(s, range, at, end, next, stop),
-        WordRead::Bad => CommandRead::Failed,
-    }
+    let (end, next) = parse_cmd_name(s, at).ok_or(Refusal::ParseFailed)?;
+    parse_cmd_argument(s, range, at, end, next, stop)
 }
 
 // Past the spaces, the colons and the spaces that a text may start with. A word's first byte tells that there are none.
@@ -153,14 +135,14 @@ fn line_start(s: &[u8]) -> usize
     skip_spaces(s, i)
 }
 
-// Where the word stands behind a range that was looked for at `i`.
-fn word_place(i: usize, g: RangeRead) -> WordPlace
+// Where the word stands behind a range that was looked for at `i`, unless a number in it is too large.
+#[tactic(auto, unfolding(crate::specs::WordPlaces::word_place))]
+fn word_place(i: usize, g: RangeRead) -> Result<usize, Refusal>
     ensures { result ≡ word_place i g }
 {
-    match g {
-        RangeRead::Absent => WordPlace::At(i),
-        RangeRead::Found(_, j) => WordPlace::At(j),
-        RangeRead::TooLarge => WordPlace::TooLarge,
+    match g? {
+        None => Ok(i),
+        Some((_, j)) => Ok(j),
     }
 }
 
@@ -171,10 +153,8 @@ pub fn parse_cmd_descr(s: &[u8], stop: usize) -> CommandRead
 {
     let i = line_start(s);
     let range = parse_range(s, i);
-    match word_place(i, range) {
-        WordPlace::At(j) => parse_cmd_after_range(s, range, j, stop),
-        WordPlace::TooLarge => CommandRead::TooLarge,
-    }
+    let j = word_place(i, range)?;
+    parse_cmd_after_range(s, range, j, stop)
 }
 
 // The reading of a text.

@@ -1,141 +1,135 @@
 // Refusals in words: those of bindings/rust/src/words.rs.
-#![tactic(auto)]
+#![tactic(auto, using(texts::specs::WrittenLaws::adding))]
 
-ghost use Rattle.texts.specs.Behind.{Behind};
+ghost use Rattle.texts.specs.Written.{Adds};
 
 use limits::refusal::{NoRefusal, Refusal};
 use limits::{ALIASES, LAST_COMMAND, LINE, MOST, WORD};
-use phrases::number::name_of;
-use texts::put::{put_decimal, put_quoted, put_text};
+use phrases::reader::name_of;
+use texts::page::Page;
 
 // Words about a limit.
-fn put_limit(out: &mut [u8], at: usize, before: &[u8], limit: u64, behind: &[u8]) -> usize
-    ensures { Behind out.old out.new at result }
+// The texts about a limit have a function each below: a text is made anew where the function starts that has it.
+fn put_limit(page: &mut Page<'_>, before: &[u8], limit: u64, behind: &[u8])
+    ensures { Adds page.old page.new }
 {
-    let i = put_text(out, at, before);
-    let j = put_decimal(out, i, limit);
-    put_text(out, j, behind)
+    page.text(before);
+    page.decimal(limit);
+    page.text(behind);
 }
 
 // A line that is too long.
-fn put_line_limit(out: &mut [u8], at: usize) -> usize
-    ensures { Behind out.old out.new at result }
+fn put_line_limit(page: &mut Page<'_>)
+    ensures { Adds page.old page.new }
 {
-    put_limit(out, at, b"the line is longer than ", LINE as u64, b" bytes")
+    put_limit(page, b"the line is longer than ", LINE as u64, b" bytes");
 }
 
 // A number that is too large.
-fn put_number_limit(out: &mut [u8], at: usize) -> usize
-    ensures { Behind out.old out.new at result }
+fn put_number_limit(page: &mut Page<'_>)
+    ensures { Adds page.old page.new }
 {
-    put_limit(out, at, b"a number is above ", MOST, b"")
+    put_limit(page, b"a number is above ", MOST, b"");
 }
 
 // A sum that is too large.
-fn put_sum_limit(out: &mut [u8], at: usize) -> usize
-    ensures { Behind out.old out.new at result }
+fn put_sum_limit(page: &mut Page<'_>)
+    ensures { Adds page.old page.new }
 {
-    put_limit(out, at, b"a sum of offsets is above ", MOST, b"")
+    put_limit(page, b"a sum of offsets is above ", MOST, b"");
 }
 
 // An alias that is none.
-fn put_alias_limit(out: &mut [u8], at: usize) -> usize
-    ensures { Behind out.old out.new at result }
+fn put_alias_limit(page: &mut Page<'_>)
+    ensures { Adds page.old page.new }
 {
     put_limit(
-        out,
-        at,
+        page,
         b"the alias is not 1 to ",
         WORD as u64,
         b" word characters",
-    )
+    );
 }
 
 // A command that there is not.
-fn put_command_limit(out: &mut [u8], at: usize) -> usize
-    ensures { Behind out.old out.new at result }
+fn put_command_limit(page: &mut Page<'_>)
+    ensures { Adds page.old page.new }
 {
     put_limit(
-        out,
-        at,
+        page,
         b"the command's number is above ",
         LAST_COMMAND as u64,
         b"",
-    )
+    );
 }
 
 // An alias too many.
-fn put_aliases_limit(out: &mut [u8], at: usize) -> usize
-    ensures { Behind out.old out.new at result }
+fn put_aliases_limit(page: &mut Page<'_>)
+    ensures { Adds page.old page.new }
 {
     put_limit(
-        out,
-        at,
+        page,
         b"there are ",
         ALIASES as u64,
         b" aliases, and no place for a new one",
-    )
+    );
 }
 
 // The one home of the words: a case that has none is an error. A text is made anew where the function starts that has it, so those about a
 // limit have functions of their own.
-fn put_words(out: &mut [u8], at: usize, x: Refusal) -> usize
-    ensures { Behind out.old out.new at result }
+fn put_words(page: &mut Page<'_>, x: Refusal)
+    ensures { Adds page.old page.new }
 {
     match x {
-        Refusal::LineTooLong => put_line_limit(out, at),
-        Refusal::NotUtf8 => put_text(out, at, b"the line is not UTF-8"),
-        Refusal::ParseFailed => put_text(
-            out,
-            at,
-            b"the line, or a list or range in it, does not parse",
-        ),
-        Refusal::NumberTooLarge => put_number_limit(out, at),
-        Refusal::InvalidArgument => put_text(out, at, b"the command does not take this argument"),
-        Refusal::InvalidRange => put_text(out, at, b"the command does not take this range"),
-        Refusal::SumTooLarge => put_sum_limit(out, at),
-        Refusal::BadAlias => put_alias_limit(out, at),
-        Refusal::BadCommand => put_command_limit(out, at),
-        Refusal::UnknownWord => put_text(out, at, b"no command has this word"),
-        Refusal::Unimplemented => put_text(out, at, b"the command is not implemented"),
-        Refusal::StoreTooShort => put_text(out, at, b"the store is too short"),
-        Refusal::AliasesFull => put_aliases_limit(out, at),
-        Refusal::NotASession => put_text(out, at, b"the bytes are not a session"),
+        Refusal::LineTooLong => put_line_limit(page),
+        Refusal::NotUtf8 => page.text(b"the line is not UTF-8"),
+        Refusal::ParseFailed => page.text(b"the line, or a list or range in it, does not parse"),
+        Refusal::NumberTooLarge => put_number_limit(page),
+        Refusal::InvalidArgument => page.text(b"the command does not take this argument"),
+        Refusal::InvalidRange => page.text(b"the command does not take this range"),
+        Refusal::SumTooLarge => put_sum_limit(page),
+        Refusal::BadAlias => put_alias_limit(page),
+        Refusal::BadCommand => put_command_limit(page),
+        Refusal::UnknownWord => page.text(b"no command has this word"),
+        Refusal::Unimplemented => page.text(b"the command is not implemented"),
+        Refusal::StoreTooShort => page.text(b"the store is too short"),
+        Refusal::AliasesFull => put_aliases_limit(page),
+        Refusal::NotASession => page.text(b"the bytes are not a session"),
     }
 }
 
 // A refusal by its number.
-pub fn put_refusal(out: &mut [u8], at: usize, n: u64) -> usize
-    ensures { Behind out.old out.new at result }
+pub fn put_refusal(page: &mut Page<'_>, n: u64)
+    ensures { Adds page.old page.new }
 {
     match Refusal::try_from(n) {
-        Ok(x) => put_words(out, at, x),
-        Err(NoRefusal { number: 0 }) => put_text(out, at, b"not refused"),
-        Err(NoRefusal { number }) => put_limit(out, at, b"no refusal has the number ", number, b""),
+        Ok(x) => put_words(page, x),
+        Err(NoRefusal { number: 0 }) => page.text(b"not refused"),
+        Err(NoRefusal { number }) => put_limit(page, b"no refusal has the number ", number, b""),
     }
 }
 
 // The refusal of a word.
-pub fn put_refused_word(out: &mut [u8], at: usize, n: u64, word: &[u8]) -> usize
-    ensures { Behind out.old out.new at result }
+pub fn put_refused_word(page: &mut Page<'_>, n: u64, word: &[u8])
+    ensures { Adds page.old page.new }
 {
-    let i = put_refusal(out, at, n);
-    let j = put_text(out, i, b": ");
-    put_quoted(out, j, word)
+    put_refusal(page, n);
+    page.text(b": ");
+    page.quoted(word);
 }
 
 // The refusal of a line, with what it is about: the word that no command has, which the line wrote as a name, or else the reading that
 // was refused, where one was begun.
-pub fn put_refused(out: &mut [u8], at: usize, n: u64, readings: u64, written: &[u8]) -> usize
-    ensures { Behind out.old out.new at result }
+pub fn put_refused(page: &mut Page<'_>, n: u64, readings: u64, written: &[u8])
+    ensures { Adds page.old page.new }
 {
     if n == u64::from(Refusal::UnknownWord) {
-        return put_refused_word(out, at, n, name_of(written));
+        put_refused_word(page, n, name_of(written));
+        return;
     }
-    let i = put_refusal(out, at, n);
-    if readings == 0 {
-        return i;
+    put_refusal(page, n);
+    if readings > 0 {
+        page.text(b", in reading ");
+        page.decimal(readings);
     }
-    let j = put_text(out, i, b", in reading ");
-    put_decimal(out, j, readings)
 }

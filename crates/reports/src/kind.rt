@@ -25,7 +25,7 @@ fn of_alias(d: Decimal) -> Kind
     ensures { result ≡ of_alias d }
 {
     match d {
-        Decimal::Value(n, _) => Kind::Alias(n),
+        Ok(Some((n, _))) => Kind::Alias(n),
         _ => Kind::Other,
     }
 }
@@ -46,7 +46,7 @@ fn of_number(line: &[u8], d: Decimal) -> Kind
     ensures { result ≡ of_number line.now d }
 {
     match d {
-        Decimal::Value(n, e) => numbered(n, part(line, e, line.len())),
+        Ok(Some((n, e))) => numbered(n, part(line, e, line.len())),
         _ => Kind::Other,
     }
 }

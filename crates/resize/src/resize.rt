@@ -13,22 +13,15 @@ use ranges::range::{
 };
 use reading::line::{CommandDescription, argument};
 
-// How a window changes, or a refusal.
-#[derive(Clone, Copy)]
-pub enum Resized {
-    By(SizeChange),
-    Refused(Refusal),
-}
-
-fn exact_by(n: u64, s: Sum) -> Resized
+#[tactic(auto, unfolding(crate::specs::Resize::exact_by))]
+fn exact_by(n: u64, s: Sum) -> Result<SizeChange, Refusal>
     ensures { result ≡ exact_by n s }
 {
-    match s {
-        Sum::Is(d, k) => Resized::By(SizeChange::Exact(moved(n, d, k))),
-        Sum::Over => Resized::Refused(Refusal::SumTooLarge),
-    }
+    let (d, k) = s?;
+    Ok(SizeChange::Exact(moved(n, d, k)))
 }
 
+#[tactic(auto, unfolding(crate::specs::Resize::stepped))]
 fn stepped(d: MoveDir1D, k: u64) -> SizeChange
     ensures { result ≡ stepped_of d k }
 {
@@ -38,17 +31,17 @@ fn stepped(d: MoveDir1D, k: u64) -> SizeChange
     }
 }
 
-fn step_by(s: Sum) -> Resized
+#[tactic(auto, unfolding(crate::specs::Resize::step_by))]
+fn step_by(s: Sum) -> Result<SizeChange, Refusal>
     ensures { result ≡ step_by s }
 {
-    match s {
-        Sum::Is(d, k) => Resized::By(stepped(d, k)),
-        Sum::Over => Resized::Refused(Refusal::SumTooLarge),
-    }
+    let (d, k) = s?;
+    Ok(stepped(d, k))
 }
 
 // Digits give the size, offsets alone a step.
-fn end_change(a: &[u8], e: RangeEnding) -> Resized
+#[tactic(auto, unfolding(crate::specs::Resize::end_change))]
+fn end_change(a: &[u8], e: RangeEnding) -> Result<SizeChange, Refusal>
     ensures { result ≡ end_change a.now e.atom e.from }
 {
     let t = e.atom;
@@ -56,63 +49,57 @@ fn end_change(a: &[u8], e: RangeEnding) -> Resized
     match t {
         RangeEndingType::Absolute(n) => exact_by(n, sum_mods(a, from)),
         RangeEndingType::Unspecified => step_by(sum_mods(a, from)),
-        RangeEndingType::Current => Resized::Refused(Refusal::InvalidRange),
-        RangeEndingType::Last => Resized::Refused(Refusal::InvalidRange),
-        RangeEndingType::All => Resized::Refused(Refusal::InvalidRange),
-        RangeEndingType::Search(_) => Resized::Refused(Refusal::InvalidRange),
-        RangeEndingType::SubPatSearch => Resized::Refused(Refusal::InvalidRange),
-        RangeEndingType::Mark(_) => Resized::Refused(Refusal::InvalidRange),
+        _ => Err(Refusal::InvalidRange),
     }
 }
 
-fn range_change(a: &[u8], g: RangeSpec) -> Resized
+#[tactic(auto, unfolding(crate::specs::Resize::range_change))]
+fn range_change(a: &[u8], g: RangeSpec) -> Result<SizeChange, Refusal>
     ensures { result ≡ range_change a.now g }
 {
     match g {
         RangeSpec::Single(e) => end_change(a, e),
-        RangeSpec::Double(_, _, _) => Resized::Refused(Refusal::InvalidRange),
+        RangeSpec::Double(_, _, _) => Err(Refusal::InvalidRange),
     }
 }
 
-fn change_by(a: &[u8], w: WholeRead) -> Resized
+#[tactic(auto, unfolding(crate::specs::Resize::change_by))]
+fn change_by(a: &[u8], w: WholeRead) -> Result<SizeChange, Refusal>
     ensures { result ≡ change_by a.now w }
 {
-    match w {
-        WholeRead::Range(g) => range_change(a, g),
-        WholeRead::Bad => Resized::Refused(Refusal::ParseFailed),
-        WholeRead::TooLarge => Resized::Refused(Refusal::NumberTooLarge),
+    match w? {
+        Some(g) => range_change(a, g),
+        None => Err(Refusal::ParseFailed),
     }
 }
 
 // The change that the argument `a` asks for.
-fn size_change(a: &[u8]) -> Resized
+#[tactic(auto, unfolding(crate::specs::Resize::change_of))]
+fn size_change(a: &[u8]) -> Result<SizeChange, Refusal>
     ensures { result ≡ change_of a.now }
 {
     if a.len() == 0 {
-        return Resized::Refused(Refusal::InvalidArgument);
+        return Err(Refusal::InvalidArgument);
     }
     change_by(a, parse_whole_range(a))
 }
 
+#[tactic(auto, unfolding(crate::specs::Resize::resize_at))]
 fn resize_at(axis: Axis, c: SizeChange, f: Focused) -> Done
     ensures { result ≡ resize_at axis c f }
 {
-    match f {
-        Focused::To(x) => Done::Act(Action::Window(WindowAction::Resize(x, axis, c))),
-        Focused::Refused(e) => Done::Refused(e),
-    }
+    Ok(Action::Window(WindowAction::Resize(f?, axis, c)))
 }
 
-fn resize_by(axis: Axis, c: Resized, f: Focused) -> Done
+#[tactic(auto, unfolding(crate::specs::Resize::resize_by))]
+fn resize_by(axis: Axis, c: Result<SizeChange, Refusal>, f: Focused) -> Done
     ensures { result ≡ resize_by axis c f }
 {
-    match c {
-        Resized::By(n) => resize_at(axis, n, f),
-        Resized::Refused(e) => Done::Refused(e),
-    }
+    resize_at(axis, c?, f)
 }
 
 // The `:resize` command. Alias: `res`. Changes the size of a window along the axis of the context.
+#[tactic(auto, unfolding(crate::specs::Resize::resize_of))]
 pub fn vim_cmd_resize(s: &[u8], d: CommandDescription, x: CommandContext) -> Done
     ensures { result ≡ resize_of s.now d x }
 {

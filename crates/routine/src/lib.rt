@@ -2,11 +2,13 @@
 #![tactic(auto)]
 
 ghost use Rattle.std.specs.Prelude.{◌≡◌, length, replicate};
+ghost use Rattle.limits.specs.Refusals.{number_of};
 ghost use Rattle.commands.specs.Line.{store_after};
 ghost use Rattle.layout.specs.Layout.{session_size, fresh as fresh_one, written};
 ghost use Rattle.run.specs.Reply.{reply};
 ghost use Rattle.session.specs.Lent.{line_answer, line_bytes, alias_no, alias_bytes};
 
+use limits::refusal::Refusal;
 use run::reply::LineReply;
 use session::value::Session;
 
@@ -22,13 +24,13 @@ pub fn input_cmd(session: &mut Session, line: &[u8], store: &mut [u8]) -> LineRe
 }
 
 // Adds an alias, or replaces it.
-pub fn add_alias(session: &mut Session, word: &[u8], command: u64) -> u64
-    ensures answer { result ≡ alias_no session.old.bytes word.now command }
+pub fn add_alias(session: &mut Session, word: &[u8], command: u64) -> Result<(), Refusal>
+    ensures answer { number_of result ≡ alias_no session.old.bytes word.now command }
     ensures session { session.new.bytes ≡ alias_bytes session.old.bytes word.now command }
 {
     let added = session::value::add_alias(*session, word, command);
     *session = added.session;
-    added.refusal
+    added.answer
 }
 
 // A line of a fresh session, which is made here and lent.

@@ -1,7 +1,7 @@
 -- The invariant of the loop over readings, and its laws: what the line answers is what the text from `from` up to `to` answers in the
 -- context x, after n readings; `stop` is where that text's first 0x0A stands, or its end.
 -- Assumes nothing.
-use Rattle.std.specs.Prelude.{◌≡◌, List, ℕ, ◌+◌, ◌-◌, ◌≤◌, ◌<◌, length}
+use Rattle.std.specs.Prelude.{◌≡◌, List, ℕ, ◌+◌, ◌-◌, ◌≤◌, ◌<◌, length, Ok, Err}
 use Rattle.std.proofs.Math.Path.{refl, ap}
 use Rattle.std.proofs.Common.{sym, ◌∙◌, subst, arith}
 use Rattle.limits.specs.Refusals.{refusal_no}
@@ -15,7 +15,7 @@ use Rattle.reading.specs.declared.line.CommandDescription.{CommandDescription}
 use Rattle.actions.specs.Record.{paper_of}
 use Rattle.context.specs.Context.{fresh}
 use Rattle.context.specs.declared.context.CommandContext.{CommandContext}
-use Rattle.handlers.specs.declared.done.Done.{Done}
+use Rattle.handlers.specs.Done.{Done}
 use Rattle.words.specs.Words.{Row}
 use Rattle.commands.specs.Handle.{handle_of}
 use Rattle.commands.specs.Run.{decide, change, Out, done_out, step, run_on, line_from}
@@ -40,8 +40,8 @@ held_start table line stop e =
 -- what a handler's answer to a reading of a part of the line stands for
 done_part : (l : List ℕ) (f t : ℕ) (d : CommandDescription) (y : Done) → In d.argument (t - f) d.stop → done_at l y (f + d.argument) (f + d.stop) ≡ done_out (part_of l f t) d y
 unfolding done_at done_out
-done_part l f t d (Done.Act a) i = ap (λ v. Out.act (paper_of v a)) (sym (part_part l f t d.argument d.stop i.from i.to))
-done_part l f t d (Done.Refused e) i = refl
+done_part l f t d (Ok a) i = ap (λ v. Out.act (paper_of v a)) (sym (part_part l f t d.argument d.stop i.from i.to))
+done_part l f t d (Err e) i = refl
 
 module _ (table : List Row) (line : List ℕ) (x : CommandContext) (n from to stop : ℕ) (h : Held table line x n from to stop) where
   text_length : length (part_of line from to) ≡ to - from

@@ -1,7 +1,7 @@
 // What a line answers in numbers, and what it writes at the front of the store: a function for each way in which a line ends.
 ghost use Rattle.std.specs.Prelude.{◌≡◌, ◌+◌, ◌≤◌, length};
 ghost use Rattle.limits.specs.Limits.{spare};
-ghost use Rattle.limits.specs.Refusals.{refusal_no};
+ghost use Rattle.limits.specs.Refusals.{refusal_no, number_of, count_of};
 ghost use Rattle.scan.specs.Scan.{part_of};
 ghost use Rattle.commands.specs.Run.{Out};
 ghost use Rattle.commands.specs.Line.{store_after};
@@ -13,6 +13,8 @@ use limits::refusal::Refusal;
 use scan::part::part;
 use store::put_name;
 
+// The replies over C are structs of numbers, as C wants them.
+
 // What a line answers: the refusal's number or 0, the readings, and how many bytes it wrote at the front of the store.
 #[repr(C)]
 #[derive(Clone, Copy)]
@@ -20,6 +22,26 @@ pub struct LineReply {
     pub refusal: u64,
     pub readings: u64,
     pub count: u64,
+}
+
+// What a call over C answers that counts what it wrote: the refusal's number or 0, and the count, or 0.
+#[repr(C)]
+#[derive(Clone, Copy)]
+pub struct CountReply {
+    pub refusal: u64,
+    pub count: u64,
+}
+
+impl From<Result<usize, Refusal>> for CountReply {
+    ghost from_gives = { λ r c. (c.refusal ≡ number_of r) × (c.count ≡ count_of r) };
+
+    fn from(r: Result<usize, Refusal>) -> CountReply {
+        let (refusal, count) = match r {
+            Ok(n) => (0, n as u64),
+            Err(x) => (u64::from(x), 0),
+        };
+        CountReply { refusal, count }
+    }
 }
 
 // The line gives nothing.
@@ -78,7 +100,7 @@ pub fn end_done(
     ensures size { length store.new ≡ length store.old }
 {
     match x {
-        Done::Act(y) => {
+        Ok(y) => {
             let count = put_action(store, 0, part(line, a, e), y);
             LineReply {
                 refusal: 0,
@@ -86,6 +108,6 @@ pub fn end_done(
                 count: count as u64,
             }
         }
-        Done::Refused(y) => end_refused(y, readings),
+        Err(y) => end_refused(y, readings),
     }
 }

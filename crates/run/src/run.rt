@@ -16,8 +16,7 @@ use commands::handle::handle;
 use commands::next::{Next, by_name, changed};
 use context::context::CommandContext;
 use layout::lookup::find_word;
-use limits::refusal::Refusal;
-use reading::line::{CommandRead, description_again, parse_cmd_descr};
+use reading::line::{description_again, parse_cmd_descr};
 use scan::part::part;
 
 // What one reading of a text leads to, where the first 0x0A of the text, or its end, is at `stop`.
@@ -26,7 +25,7 @@ fn decide(s: &[u8], stop: usize, session: &[u8]) -> Next
     ensures { result ≡ decide_of (table_of (session_of session.now)) s.now }
 {
     match parse_cmd_descr(s, stop) {
-        CommandRead::Command(d) => {
+        Ok(d) => {
             let a = d.word;
             let e = d.end;
             if a == e {
@@ -34,8 +33,7 @@ fn decide(s: &[u8], stop: usize, session: &[u8]) -> Next
             }
             by_name(s, d, find_word(session, part(s, a, e)))
         }
-        CommandRead::Failed => Next::Refused(Refusal::ParseFailed),
-        CommandRead::TooLarge => Next::Refused(Refusal::NumberTooLarge),
+        Err(why) => Next::Refused(why),
     }
 }
 
@@ -51,6 +49,7 @@ pub fn run(line: &[u8], session: &[u8], store: &mut [u8]) -> LineReply
     let mut from = skip_spaces(line, 0);
     let mut to = line.len();
     let mut stop = text_stop(part(line, from, to));
+    // Each reading says where the next one starts, and whether there is one.
     loop {
         let m = n + 1;
         let s = part(line, from, to);

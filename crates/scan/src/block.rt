@@ -13,6 +13,7 @@ pub fn blocks_end<C: Class>(s: &[u8], at: usize) -> usize
     ensures run { run_at C.rule s.now at ≡ run_at C.rule s.now result }
 {
     let mut i = at;
+    // Left at the first block that is not all of the class, and its place answered: a `for` over blocks would count the places beside them.
     while i < s.len() && BLOCK <= s.len() - i {
         if !C::all(&s[i..i + BLOCK]) {
             return i;

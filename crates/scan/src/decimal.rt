@@ -1,5 +1,5 @@
 // Decimal digits.
-ghost use Rattle.std.specs.Prelude.{◌≡◌, true, false, cond, ◌+◌, ◌*◌, ◌^◌, ◌<◌, ◌≤◌, eqb, length};
+ghost use Rattle.std.specs.Prelude.{◌≡◌, true, false, cond, ◌+◌, ◌*◌, ◌^◌, ◌<◌, ◌≤◌, eqb, length, Ok, Some, None};
 ghost use Rattle.scan.specs.Bytes.{is_digit, is_zero};
 ghost use Rattle.scan.specs.Scan.{digits_at};
 ghost use Rattle.scan.specs.DigitsLaws.{Zeros};
@@ -9,26 +9,18 @@ use super::byte::within;
 use super::classes::Class;
 use super::part::byte_at;
 use limits::MOST;
+use limits::refusal::Refusal;
 
 // Decimal digits at a position: none, or their value and the position past them, or a value above 2^64 - 1.
-#[derive(Clone, Copy)]
-pub enum Decimal {
-    Absent,
-    Value(u64, usize),
-    TooLarge,
-}
+pub type Decimal = Result<Option<(u64, usize)>, Refusal>;
 
 // A number up to this stays below 2^64 with any digit behind it.
 const SMALL: u64 = MOST / 10 - 1;
 
 fn number(at: usize, i: usize, n: u64) -> Decimal
-    ensures { result ≡ cond (eqb i at) Decimal.Absent (Decimal.Value n i) }
+    ensures { result ≡ cond (eqb i at) (Ok None) (Ok (Some (n, i))) }
 {
-    if i == at {
-        Decimal::Absent
-    } else {
-        Decimal::Value(n, i)
-    }
+    if i == at { Ok(None) } else { Ok(Some((n, i))) }
 }
 
 pub fn is_digit(b: u8) -> bool
@@ -75,6 +67,7 @@ pub fn many_digits(s: &[u8], at: usize) -> Decimal
 {
     let mut n: u64 = 0;
     let mut i = past_zeros(s, at);
+    // The place past the digits is answered: behind a `for` it would be the end, or `at` where that is past the end.
     while i < s.len() {
         let b = s[i];
         if !is_digit(b) {
@@ -82,7 +75,7 @@ pub fn many_digits(s: &[u8], at: usize) -> Decimal
         }
         let d = (b - 0x30) as u64;
         if too_large(n, d) {
-            return Decimal::TooLarge;
+            return Err(Refusal::NumberTooLarge);
         }
         n = n * 10 + d;
         i += 1;
@@ -96,11 +89,11 @@ pub fn digits(s: &[u8], at: usize) -> Decimal
 {
     let b = byte_at(s, at);
     if !is_digit(b) {
-        return Decimal::Absent;
+        return Ok(None);
     }
     let i = at + 1;
     if !is_digit(byte_at(s, i)) {
-        return Decimal::Value((b - 0x30) as u64, i);
+        return Ok(Some(((b - 0x30) as u64, i)));
     }
     many_digits(s, at)
 }

@@ -1,6 +1,6 @@
 -- The tokens of a line that is UTF-8 cut no character: the bytes of each are UTF-8.
 -- Look for `tokens_utf8`. Assumes nothing.
-use Rattle.std.specs.Prelude.{◌≡◌, Bool, cond, ◌||◌, List}
+use Rattle.std.specs.Prelude.{◌≡◌, Bool, cond, ◌||◌, List, Ok, Err, Option, Some, None}
 use Rattle.std.proofs.Math.Path.{refl, sym, ap}
 use Rattle.std.proofs.Common.{◌∙◌, arith, eqb-true, leb-true, leb-false}
 use Rattle.std.proofs.Math.Bool.{true, false}
@@ -11,12 +11,9 @@ use Rattle.std.proofs.Math.Dec.{eqb, leb}
 use Rattle.std.proofs.Math.ListN.{length}
 use Rattle.scan.specs.Bytes.{is_space, is_colon, is_text}
 use Rattle.scan.specs.Scan.{run_at, byte_at}
-use Rattle.ranges.specs.Range.{range_at}
-use Rattle.ranges.specs.declared.range.RangeRead.{RangeRead}
+use Rattle.ranges.specs.Range.{range_at, RangeRead}
 use Rattle.lists.specs.Lists.{item_at}
-use Rattle.lists.specs.declared.text.TextEnd.{TextEnd}
 use Rattle.reading.specs.Line.{skip_byte, word_at}
-use Rattle.reading.specs.declared.line.WordRead.{WordRead}
 use Rattle.utf8.specs.Utf8.{utf8_at, whole, is_utf8}
 use Rattle.scanner.specs.Tokens.{token, lead_left, lead_word, lead_range, lead_of, pieces, parted, newline_token, item_token, argument_token, token_at, tokens_from, tokens_at, tokens_of}
 use Rattle.scanner.specs.Cover.{Utf8s}
@@ -45,10 +42,10 @@ module _ (s : List ℕ) where
     unfolding pieces lead_left
     left_whole d w = (wa, (wb, (wc, (w, (w, (w, (w, (w, (end_whole s (length s) (omega arith), tt)))))))))
 
-    word_whole : (d : ℕ) (o : WordRead) → Whole d → WordSame s d o → Wholes (lead_word s a b c d o)
+    word_whole : (d : ℕ) (o : Option (ℕ × ℕ)) → Whole d → WordSame s d o → Wholes (lead_word s a b c d o)
     unfolding pieces lead_word
-    word_whole d WordRead.Bad w h = left_whole d w
-    word_whole d (WordRead.Word e k) w h =
+    word_whole d None w h = left_whole d w
+    word_whole d (Some (e, k)) w h =
         let we : Whole e = sym h.0 ∙ w in
         let wk : Whole k = sym h.1 ∙ w in
         let wf : Whole (skip_byte s k 0x21) = sym (skip_same s k 0x21 (omega arith) (omega arith)) ∙ wk in
@@ -57,9 +54,9 @@ module _ (s : List ℕ) where
 
     range_whole : (g : RangeRead) → RangeSame s c g → Wholes (lead_range s a b c g)
     unfolding lead_range
-    range_whole RangeRead.Absent h = word_whole c (word_at s c) wc (word_same s c)
-    range_whole (RangeRead.Found g d) h = word_whole d (word_at s d) (sym h ∙ wc) (word_same s d)
-    range_whole RangeRead.TooLarge h = left_whole c wc
+    range_whole (Ok None) h = word_whole c (word_at s c) wc (word_same s c)
+    range_whole (Ok (Some (g, d))) h = word_whole d (word_at s d) (sym h ∙ wc) (word_same s d)
+    range_whole (Err why) h = left_whole c wc
 
   module _ (u : is_utf8 s ≡ true) where
     start_whole : Whole 0
@@ -102,10 +99,10 @@ module _ (s : List ℕ) where
         go (no l) = end_whole s (run_at is_text s i) (omega arith)
 
     module _ (i : ℕ) (h : i < length s) (w : Whole i) where
-      item_whole : (t : TextEnd) → Whole (item_token s i t).stop
+      item_whole : (t : Option ℕ) → Whole (item_token s i t).stop
       unfolding item_token
-      item_whole TextEnd.Bad = text_whole i (omega arith)
-      item_whole (TextEnd.End j) = go (parted s j) (eqb (byte_at s i) 0x22) refl
+      item_whole None = text_whole i (omega arith)
+      item_whole (Some j) = go (parted s j) (eqb (byte_at s i) 0x22) refl
         where
           go : (a b : Bool) → parted s j ≡ a → Whole (cond a (cond b (token TokenKind.Quoted i j) (token TokenKind.Text i j)) (token TokenKind.Unlisted i (run_at is_text s i))).stop
           go true true e = parted_whole j e

@@ -1,6 +1,6 @@
 -- What a scanner hands out: the tokens of its line, each once and in order, and then that nothing is left, for ever.
 -- Look for `new_hands`, `tokens_no_end`. Assumes nothing.
-use Rattle.std.specs.Prelude.{◌≡◌, Bool, cond, eqb}
+use Rattle.std.specs.Prelude.{◌≡◌, Bool, cond, eqb, Option, Some, None}
 use Rattle.std.proofs.Math.Path.{refl, ap}
 use Rattle.std.proofs.Common.{◌∙◌, sym}
 use Rattle.std.proofs.Math.Bool.{true, false}
@@ -13,7 +13,6 @@ use Rattle.std.proofs.lemmas.Bool.{lt-leb}
 use Rattle.scan.specs.Bytes.{is_space, is_text}
 use Rattle.scan.specs.Scan.{run_at, byte_at}
 use Rattle.lists.specs.Lists.{item_at}
-use Rattle.lists.specs.declared.text.TextEnd.{TextEnd}
 use Rattle.scanner.specs.Tokens.{token, end_token, lead_of, pieces, parted, newline_token, item_token, argument_token, token_at, tokens_from, tokens_at, tokens_of, position_at, step_at, handed, ends}
 use Rattle.scanner.specs.Cover.{kind_no, of_kind}
 use Rattle.scanner.specs.LeadLaws.{piece_all, lead_upto}
@@ -84,10 +83,10 @@ is_end : TokenKind → Bool
 is_end k = eqb (kind_no k) (kind_no TokenKind.End)
 
 module _ (s : List ℕ) (i : ℕ) (h : i < length s) where
-  item_no_end : (t : TextEnd) → is_end (item_token s i t).kind ≡ false
+  item_no_end : (t : Option ℕ) → is_end (item_token s i t).kind ≡ false
   unfolding is_end item_token kind_no
-  item_no_end TextEnd.Bad = refl
-  item_no_end (TextEnd.End j) = go (parted s j) (eqb (byte_at s i) 0x22)
+  item_no_end None = refl
+  item_no_end (Some j) = go (parted s j) (eqb (byte_at s i) 0x22)
     where
       go : (a b : Bool) → is_end (cond a (cond b (token TokenKind.Quoted i j) (token TokenKind.Text i j)) (token TokenKind.Unlisted i (run_at is_text s i))).kind ≡ false
       go true true = refl

@@ -2,7 +2,7 @@
 -- of the argument is of no list. Look for `items_tokens`, `items_unlisted`. Assumes nothing.
 use Rattle.std.proofs.Math.Path.{◌≡◌, refl, sym, ap}
 use Rattle.std.proofs.Common.{◌∙◌, eqb-true, le-leb}
-use Rattle.std.specs.Prelude.{Bool, ◌||◌, eqb, ltb, leb}
+use Rattle.std.specs.Prelude.{Bool, ◌||◌, eqb, ltb, leb, Ok, Option, Some, None}
 use Rattle.std.proofs.Math.Bool.{true, false, cond}
 use Rattle.std.proofs.lemmas.Bool.{false≢true, eqb-false, lt-leb}
 use mathlib.Core.List.{List, [], ◌∷◌, ◌++◌}
@@ -16,12 +16,10 @@ use Rattle.scan.specs.RunLaws.{run_at_le, run_at_within, run_at_starts, run_at_e
 use Rattle.scan.specs.PartLaws.{part_length}
 use Rattle.lists.specs.Lists.{item_at, Items, also, items_at, items_of}
 use Rattle.lists.specs.ListLaws.{item_in, items_bad, items_last, items_left, items_on}
-use Rattle.lists.specs.declared.text.TextEnd.{TextEnd}
 use Rattle.lists.specs.declared.list.Item.{Item}
 use Rattle.reading.specs.Line.{skip_byte, reading_of, argument_of}
 use Rattle.reading.specs.LineLaws.{parsed}
 use Rattle.reading.specs.declared.line.CommandDescription.{CommandDescription}
-use Rattle.reading.specs.declared.line.CommandRead.{CommandRead}
 use Rattle.scanner.specs.Tokens.{token, lead_of, Piece, pieces, parted, item_token, argument_token, token_at, tokens_at, tokens_of}
 use Rattle.scanner.specs.Cover.{kind_no, of_kind, only, is_item, texts, token_of, tokens_for, some}
 use Rattle.scanner.specs.LeadLaws.{AllPieces, lead_inside}
@@ -130,7 +128,7 @@ also_good x Items.bad xs h = let z : ◌≡◌ {A = ℕ} 0 1 = cc in absurd (ome
 also_good x (Items.good ys) xs h = record { rest = ys; is = refl; all = (cc) }
 
 -- an argument does not start with a space
-argument_first : (s : List ℕ) (d : CommandDescription) → reading_of s ≡ CommandRead.Command d → d.argument < length s → is_space (byte_at s d.argument) ≡ false
+argument_first : (s : List ℕ) (d : CommandDescription) → reading_of s ≡ Ok d → d.argument < length s → is_space (byte_at s d.argument) ≡ false
 argument_first s d h l =
     let p = parsed s d h in
     let q = p.argued in
@@ -202,7 +200,7 @@ module _ (s : List ℕ) (a e : ℕ) (lead : (lead_of s).argument ≡ a) (stopped
         let t = run_at_starts is_text s (a + i) (omega (arith, w)) in
         at_argument ∙ rw (lt-leb (length s) (a + i) in_line, q, no_newline (byte_at s (a + i)) t)
 
-    item_token_lem : (j : ℕ) → is_space (byte_at s (a + i)) ≡ false → item_at p i ≡ TextEnd.End j → parted s (a + j) ≡ true → token_at s (a + i) ≡ token_of s a (record { start = i; end = j })
+    item_token_lem : (j : ℕ) → is_space (byte_at s (a + i)) ≡ false → item_at p i ≡ Some j → parted s (a + j) ≡ true → token_at s (a + i) ≡ token_of s a (record { start = i; end = j })
     unfolding item_token token_of
     item_token_lem j q t f = text_token q ∙ ap (item_token s (a + i)) (item_moved s a e ae el line i j h t) ∙ rw f (go (eqb (byte_at s (a + i)) 0x22))
       where
@@ -244,7 +242,7 @@ module _ (s : List ℕ) (a e : ℕ) (lead : (lead_of s).argument ≡ a) (stopped
       rw q (or_true (leb (length s) (a + j)))
 
   -- an item, and then what stands behind its spaces
-  item_parts : (i j : ℕ) → i < e - a → is_space (byte_at s (a + i)) ≡ false → item_at p i ≡ TextEnd.End j → parted s (a + j) ≡ true →
+  item_parts : (i j : ℕ) → i < e - a → is_space (byte_at s (a + i)) ≡ false → item_at p i ≡ Some j → parted s (a + j) ≡ true →
       parts (tokens_at s (a + i)) ≡ token_of s a (record { start = i; end = j }) ∷ parts (tokens_at s (a + run_at is_space p j))
   unfolding token_of
   item_parts i j h q t f =
@@ -254,7 +252,7 @@ module _ (s : List ℕ) (a e : ℕ) (lead : (lead_of s).argument ≡ a) (stopped
       ∙ ap (λ (ts : List Token). token_of s a x ∷ ts) (spaces_parts j (omega (arith, size, (item_in p i j t).within)))
 
   -- the last item
-  last_parts : (i j : ℕ) (xs : List Item) → i < e - a → is_space (byte_at s (a + i)) ≡ false → item_at p i ≡ TextEnd.End j → run_at is_space p j ≡ length p → items_at p i ≡ Items.good xs →
+  last_parts : (i j : ℕ) (xs : List Item) → i < e - a → is_space (byte_at s (a + i)) ≡ false → item_at p i ≡ Some j → run_at is_space p j ≡ length p → items_at p i ≡ Items.good xs →
       parts (tokens_at s (a + i)) ≡ tokens_for s a xs
   unfolding tokens_for
   last_parts i j xs h q t l g =
@@ -280,11 +278,11 @@ module _ (s : List ℕ) (a e : ℕ) (lead : (lead_of s).argument ≡ a) (stopped
   items_parts zero i xs l h q g = absurd (omega arith)
   items_parts (suc m) i xs l h q g = go (item_at p i) refl (items_parts m)
     where
-      go : (t : TextEnd) → item_at p i ≡ t →
+      go : (t : Option ℕ) → item_at p i ≡ t →
           ((k : ℕ) (ys : List Item) → e - a - k ≤ m → k < e - a → is_space (byte_at s (a + k)) ≡ false → items_at p k ≡ Items.good ys → parts (tokens_at s (a + k)) ≡ tokens_for s a ys) →
           parts (tokens_at s (a + i)) ≡ tokens_for s a xs
-      go TextEnd.Bad t r = let w = items_bad p i t in let z : ◌≡◌ {A = ℕ} 0 1 = cc in absurd (omega arith)
-      go (TextEnd.End j) t r = at (eqb n (length p)) (eqb n j) refl refl
+      go None t r = let w = items_bad p i t in let z : ◌≡◌ {A = ℕ} 0 1 = cc in absurd (omega arith)
+      go (Some j) t r = at (eqb n (length p)) (eqb n j) refl refl
         where
           n : ℕ
           n = run_at is_space p j
@@ -337,7 +335,7 @@ for_unlisted s a [] = refl
 for_unlisted s a (x ∷ xs) = only_no is_unlisted (token_of s a x) (tokens_for s a xs) (item_listed s a x) ∙ for_unlisted s a xs
 
 -- an accepted reading whose argument is a list
-module _ (s : List ℕ) (d : CommandDescription) (h : reading_of s ≡ CommandRead.Command d) (xs : List Item) (g : items_of (argument_of s d) ≡ Items.good xs) where
+module _ (s : List ℕ) (d : CommandDescription) (h : reading_of s ≡ Ok d) (xs : List Item) (g : items_of (argument_of s d) ≡ Items.good xs) where
   items_parts_of : parts (tokens_of s) ≡ tokens_for s d.argument xs
   items_parts_of =
       let p = parsed s d h in

@@ -1,16 +1,14 @@
 -- Laws of a line's lead: its pieces stand one after the other, within the line; of an accepted reading they are what the reading finds.
 -- Assumes nothing.
-use Rattle.std.specs.Prelude.{◌≡◌, refl, Bool, true, false, cond, List, [], ◌∷◌, ◌++◌, ℕ, ◌<◌, ◌≤◌, ltb, length, take}
+use Rattle.std.specs.Prelude.{◌≡◌, refl, Bool, true, false, cond, List, [], ◌∷◌, ◌++◌, ℕ, ◌<◌, ◌≤◌, ltb, length, take, Ok, Err, Option, Some, None}
 use Rattle.std.proofs.Common.{◌∙◌, ap, arith, ltb-true, ltb-false, le-ltb}
 use Rattle.scan.specs.Bytes.{is_space, is_colon}
 use Rattle.scan.specs.Scan.{run_at}
 use Rattle.scan.specs.RunLaws.{run_at_le, run_at_within}
-use Rattle.ranges.specs.Range.{range_at}
+use Rattle.ranges.specs.Range.{range_at, RangeRead}
 use Rattle.ranges.specs.Bounds.{RangeIn, range_at_in}
-use Rattle.ranges.specs.declared.range.RangeRead.{RangeRead}
 use Rattle.reading.specs.Line.{skip_byte, word_at, start_of}
 use Rattle.reading.specs.LineLaws.{skip_in, WordIn, word_at_in, AtWord, Parsed}
-use Rattle.reading.specs.declared.line.WordRead.{WordRead}
 use Rattle.reading.specs.declared.line.CommandDescription.{CommandDescription}
 use Rattle.scanner.specs.Tokens.{token, lead_left, lead_word, lead_range, lead_of, Piece, pieces, up_to, piece_at}
 use Rattle.scanner.specs.declared.token.TokenKind.{TokenKind}
@@ -108,10 +106,10 @@ module _ (s : List ℕ) (a b c : ℕ) (ab : a ≤ b) (bc : b ≤ c) where
         inside = omega arith;
       }
 
-  word_ordered : (d : ℕ) (o : WordRead) → c ≤ d → d ≤ length s → WordIn s d o → Ordered (length s) (lead_word s a b c d o)
+  word_ordered : (d : ℕ) (o : Option (ℕ × ℕ)) → c ≤ d → d ≤ length s → WordIn s d o → Ordered (length s) (lead_word s a b c d o)
   unfolding lead_word
-  word_ordered d WordRead.Bad h k w = left_ordered d h k
-  word_ordered d (WordRead.Word e n) h k w =
+  word_ordered d None h k w = left_ordered d h k
+  word_ordered d (Some (e, n)) h k w =
       let f = skip_in s n 0x21 (omega arith) w.inside in
       record {
         colons_from = ab;
@@ -127,9 +125,9 @@ module _ (s : List ℕ) (a b c : ℕ) (ab : a ≤ b) (bc : b ≤ c) where
 
   range_ordered : (g : RangeRead) → c ≤ length s → RangeIn c (length s) g → Ordered (length s) (lead_range s a b c g)
   unfolding lead_range
-  range_ordered RangeRead.Absent h r = word_ordered c (word_at s c) (omega arith) h (word_at_in s c h)
-  range_ordered (RangeRead.Found g d) h r = word_ordered d (word_at s d) r.0.from r.0.to (word_at_in s d r.0.to)
-  range_ordered RangeRead.TooLarge h r = left_ordered c (omega arith) h
+  range_ordered (Ok None) h r = word_ordered c (word_at s c) (omega arith) h (word_at_in s c h)
+  range_ordered (Ok (Some (g, d))) h r = word_ordered d (word_at s d) r.0.from r.0.to (word_at_in s d r.0.to)
+  range_ordered (Err why) h r = left_ordered c (omega arith) h
 
 ordered : (s : List ℕ) → Ordered (length s) (lead_of s)
 unfolding lead_of
@@ -167,12 +165,12 @@ read_upto s =
 
 range_parsed : (s : List ℕ) (a b c w : ℕ) (g : RangeRead) → AtWord c g w → lead_range s a b c g ≡ lead_word s a b c w (word_at s w)
 unfolding lead_range
-range_parsed s a b c w RangeRead.Absent h = ap (λ (n : ℕ). lead_word s a b c n (word_at s n)) h
-range_parsed s a b c w (RangeRead.Found g d) h = ap (λ (n : ℕ). lead_word s a b c n (word_at s n)) h
-range_parsed s a b c w RangeRead.TooLarge h = absurd h
+range_parsed s a b c w (Ok None) h = ap (λ (n : ℕ). lead_word s a b c n (word_at s n)) h
+range_parsed s a b c w (Ok (Some (g, d))) h = ap (λ (n : ℕ). lead_word s a b c n (word_at s n)) h
+range_parsed s a b c w (Err why) h = absurd h
 
 pub lead_parsed : (s : List ℕ) (d : CommandDescription) (h : Parsed s d) →
-    lead_of s ≡ lead_word s (run_at is_space s 0) (run_at is_colon s (run_at is_space s 0)) (start_of s) d.word (WordRead.Word d.end h.next)
+    lead_of s ≡ lead_word s (run_at is_space s 0) (run_at is_colon s (run_at is_space s 0)) (start_of s) d.word (Some (d.end, h.next))
 unfolding lead_of start_of
 lead_parsed s d h =
     ap (lead_range s (run_at is_space s 0) (run_at is_colon s (run_at is_space s 0)) (start_of s)) h.ranged

@@ -1,6 +1,6 @@
--- What is left over of a line whose reading fails: its last token, which goes up to the end.
--- Look for `failed_left`, `large_left`. Assumes nothing.
-use Rattle.std.specs.Prelude.{◌≡◌, Bool, true, false, cond, not, eqb, leb}
+-- What is left over of a line whose reading fails, or has a number that is too large: its last token, which goes up to the end.
+-- Look for `failed_left`. Assumes nothing.
+use Rattle.std.specs.Prelude.{◌≡◌, Bool, true, false, cond, not, eqb, leb, Ok, Err, Option, Some, None}
 use Rattle.std.proofs.Math.Path.{refl, ap}
 use Rattle.std.proofs.Common.{◌∙◌, subst}
 use mathlib.Core.List.{List, [], ◌∷◌}
@@ -12,14 +12,10 @@ use borrow.Author.Tests.{leb-false, eqb-false, lt-ltb, lt-leb, eq-eqb, ne_eqb}
 use Rattle.scan.specs.Bytes.{is_space, is_colon, is_word, is_text}
 use Rattle.scan.specs.Scan.{run_from, run_at, byte_at, digits_from, digits_at}
 use Rattle.scan.specs.RunLaws.{run_at_le, run_at_within}
-use Rattle.ranges.specs.Range.{sign_atom, number_or, atom_at, offsets_from, offsets_at, with_offsets, after_atom, ending_at, after_first, range_at}
+use Rattle.ranges.specs.Range.{sign_atom, number_or, atom_at, offsets_from, offsets_at, with_offsets, after_atom, ending_at, after_first, range_at, RangeRead}
 use Rattle.ranges.specs.declared.range.RangeEndingType.{RangeEndingType}
-use Rattle.ranges.specs.declared.range.EndingRead.{EndingRead}
-use Rattle.ranges.specs.declared.range.RangeRead.{RangeRead}
-use Rattle.reading.specs.Line.{skip_byte, word_at, rest_at, after_word, after_range, start_of, reading_of}
-use Rattle.reading.specs.declared.line.WordRead.{WordRead}
+use Rattle.reading.specs.Line.{skip_byte, word_at, rest_at, after_word, after_range, start_of, reading_of, CommandRead}
 use Rattle.reading.specs.declared.line.CommandDescription.{CommandDescription}
-use Rattle.reading.specs.declared.line.CommandRead.{CommandRead}
 use Rattle.scanner.specs.Tokens.{token, lead_left, lead_word, lead_range, lead_of, Piece, up_to, piece_at, newline_token, argument_token, token_at, tokens_at, tokens_of}
 use Rattle.scanner.specs.Cover.{LeftOver}
 use Rattle.scanner.specs.LeadLaws.{piece_before, piece_behind, lead_inside, read_pieces, pieces_left, read_upto}
@@ -29,6 +25,7 @@ use Rattle.scanner.specs.StopLaws.{line_end, line_stop}
 use Rattle.scanner.specs.declared.token.TokenKind.{TokenKind}
 use Rattle.scanner.specs.declared.token.Token.{Token}
 use Rattle.scanner.specs.declared.token.Lead.{Lead}
+use Rattle.limits.specs.declared.refusal.Refusal.{Refusal}
 
 -- up to a place that no token passes --------------------------------------------------------------------------------------------------
 
@@ -134,16 +131,16 @@ module _ (s : List ℕ) (e : ℕ) (r : run_at is_text s (lead_of s).argument ≡
 -- the reading, part by part -----------------------------------------------------------------------------------------------------------
 
 -- where no word can be read, a byte stands
-abbrev BadInside : List ℕ → ℕ → WordRead → Type 0
-BadInside s i (WordRead.Word j k) = Unit {0}
-BadInside s i WordRead.Bad = i < length s
+abbrev BadInside : List ℕ → ℕ → Option (ℕ × ℕ) → Type 0
+BadInside s i (Some (j, k)) = Unit {0}
+BadInside s i None = i < length s
 
 word_inside : (s : List ℕ) (i : ℕ) → BadInside s i (word_at s i)
 unfolding word_at
 word_inside s i = go (eqb (byte_at s i) 0x21) (eqb (run_at is_word s i) i) (leb (length s) i) (eqb (byte_at s i) 0x0A) refl
   where
-    go : (a b c d : Bool) → leb (length s) i ≡ c → BadInside s i (cond a (WordRead.Word (i + 1) (i + 1))
-        (cond b (cond c (WordRead.Word i i) (cond d (WordRead.Word i (i + 1)) WordRead.Bad)) (WordRead.Word (run_at is_word s i) (run_at is_word s i))))
+    go : (a b c d : Bool) → leb (length s) i ≡ c → BadInside s i (cond a (Some (i + 1, i + 1))
+        (cond b (cond c (Some (i, i)) (cond d (Some (i, i + 1)) None)) (Some (run_at is_word s i, run_at is_word s i))))
     go true b c d p = tt
     go false true true d p = tt
     go false true false true p = tt
@@ -152,29 +149,28 @@ word_inside s i = go (eqb (byte_at s i) 0x21) (eqb (run_at is_word s i) i) (leb 
 
 -- at the end there is no range
 module _ (s : List ℕ) (i : ℕ) (h : length s ≤ i) where
-  ending_end : ending_at s i ≡ EndingRead.Found (record { atom = RangeEndingType.Unspecified; from = i; to = i })
+  ending_end : ending_at s i ≡ Ok (record { atom = RangeEndingType.Unspecified; from = i; to = i })
   unfolding ending_at atom_at digits_at digits_from run_from number_or sign_atom after_atom offsets_at offsets_from with_offsets
   ending_end = rw (drop_of_length-le s h, eq-eqb i i refl, get_or-eq_default s 0 h, drop_of_length-le s h)
 
-  range_end : range_at s i ≡ RangeRead.Absent
+  range_end : range_at s i ≡ Ok None
   unfolding range_at after_first
   range_end = rw (ending_end, get_or-eq_default s 0 h, eq-eqb i i refl)
 
-large_inside : (s : List ℕ) (i : ℕ) → range_at s i ≡ RangeRead.TooLarge → i < length s
-large_inside s i h = go (dec_lt i (length s))
+large_inside : (s : List ℕ) (i : ℕ) (why : Refusal) → range_at s i ≡ Err why → i < length s
+large_inside s i why h = go (dec_lt i (length s))
   where
     go : Dec (i < length s) → i < length s
     go (yes k) = k
     go (no k) =
-        let e : range_at s i ≡ RangeRead.Absent = range_end s i (omega arith) in
+        let e : range_at s i ≡ Ok None = range_end s i (omega arith) in
         let z : ◌≡◌ {A = ℕ} 0 1 = cc in
         absurd (omega arith)
 
 -- what is left over, by what the reading is
 abbrev Told : List ℕ → CommandRead → Type 0
-Told s (CommandRead.Command d) = Unit {0}
-Told s CommandRead.Failed = LeftOver s (tokens_of s)
-Told s CommandRead.TooLarge = LeftOver s (tokens_of s)
+Told s (Ok d) = Unit {0}
+Told s (Err why) = LeftOver s (tokens_of s)
 
 module _ (s : List ℕ) where
   rest_told : (g : RangeRead) (i j k b : ℕ) → (lead_of s).argument ≡ run_at is_space s b → Told s (rest_at s g i j k b)
@@ -187,29 +183,25 @@ module _ (s : List ℕ) where
       d : CommandDescription
       d = record { range = g; word = i; end = j; bang = not (eqb b k); argument = run_at is_space s b; stop = e }
 
-      go : (t : Bool) → eqb (skip_byte s e 0x0A) (length s) ≡ t → Told s (cond t (CommandRead.Command d) CommandRead.Failed)
+      go : (t : Bool) → eqb (skip_byte s e 0x0A) (length s) ≡ t → Told s (cond t (Ok d) (Err Refusal.ParseFailed))
       go true q = tt
       go false q = line_left s e (ap (run_at is_text s) h) (eqb-false (skip_byte s e 0x0A) (length s) q)
 
-  word_told : (g : RangeRead) (a b c d : ℕ) (o : WordRead) → BadInside s d o → lead_of s ≡ lead_word s a b c d o → Told s (after_word s g d o)
+  word_told : (g : RangeRead) (a b c d : ℕ) (o : Option (ℕ × ℕ)) → BadInside s d o → lead_of s ≡ lead_word s a b c d o → Told s (after_word s g d o)
   unfolding lead_word after_word
-  word_told g a b c d (WordRead.Word j k) q e = rest_told g d j k (skip_byte s k 0x21) (ap (λ (l : Lead). l.argument) e)
-  word_told g a b c d WordRead.Bad q e = left_of s a b c d e q
+  word_told g a b c d (Some (j, k)) q e = rest_told g d j k (skip_byte s k 0x21) (ap (λ (l : Lead). l.argument) e)
+  word_told g a b c d None q e = left_of s a b c d e q
 
   range_told_lem : (a b c : ℕ) (g : RangeRead) → range_at s c ≡ g → lead_of s ≡ lead_range s a b c g → Told s (after_range s c g)
   unfolding lead_range after_range
-  range_told_lem a b c RangeRead.Absent q e = word_told RangeRead.Absent a b c c (word_at s c) (word_inside s c) e
-  range_told_lem a b c (RangeRead.Found g d) q e = word_told (RangeRead.Found g d) a b c d (word_at s d) (word_inside s d) e
-  range_told_lem a b c RangeRead.TooLarge q e = left_of s a b c c e (large_inside s c q)
+  range_told_lem a b c (Ok None) q e = word_told (Ok None) a b c c (word_at s c) (word_inside s c) e
+  range_told_lem a b c (Ok (Some (g, d))) q e = word_told (Ok (Some (g, d))) a b c d (word_at s d) (word_inside s d) e
+  range_told_lem a b c (Err why) q e = left_of s a b c c e (large_inside s c why q)
 
   told : Told s (reading_of s)
   unfolding reading_of start_of lead_of
   told = range_told_lem (run_at is_space s 0) (run_at is_colon s (run_at is_space s 0)) (start_of s) (range_at s (start_of s)) refl refl
 
-  -- where the reading fails, the last token is left over and goes up to the end
-  pub failed_left : reading_of s ≡ CommandRead.Failed → LeftOver s (tokens_of s)
-  failed_left h = subst (Told s) h told
-
-  -- and so where a number is too large
-  pub large_left : reading_of s ≡ CommandRead.TooLarge → LeftOver s (tokens_of s)
-  large_left h = subst (Told s) h told
+  -- where the reading fails, or has a number that is too large, the last token is left over and goes up to the end
+  pub failed_left : (why : Refusal) → reading_of s ≡ Err why → LeftOver s (tokens_of s)
+  failed_left why h = subst (Told s) h told

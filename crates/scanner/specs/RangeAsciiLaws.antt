@@ -1,6 +1,6 @@
 -- The bytes of a range and of a word are ASCII: where one starts at a place that cuts no character, it ends at such a place.
 -- Look for `range_same`, `word_same`. Assumes nothing.
-use Rattle.std.specs.Prelude.{◌≡◌, Bool, cond, ltb, leb, length, drop}
+use Rattle.std.specs.Prelude.{◌≡◌, Bool, cond, ltb, leb, length, drop, Result, Ok, Err, Option, Some, None}
 use Rattle.std.proofs.Math.Path.{refl}
 use Rattle.std.proofs.Common.{◌∙◌, sym, ap, arith, length-drop}
 use Rattle.std.proofs.Math.Bool.{true, false}
@@ -11,23 +11,19 @@ use Rattle.std.proofs.Math.Decide.{dec_lt}
 use Rattle.std.proofs.Math.Dec.{eqb}
 use borrow.Author.Tests.{eqb-true, le-leb, lt-leb, ne_eqb}
 use Rattle.scan.specs.Bytes.{is_space, is_colon, is_digit, is_word, is_mark}
-use Rattle.scan.specs.Scan.{run_from, run_at, byte_at, value_from, digits_from, digits_at}
+use Rattle.scan.specs.Scan.{run_from, run_at, byte_at, value_from, digits_from, digits_at, Decimal}
+use Rattle.scan.specs.FoundLaws.{found_parts}
 use Rattle.scan.specs.RunLaws.{byte_inside, run_carry, run_at_le, run_at_on, run_at_starts, drop_step}
-use Rattle.scan.specs.declared.decimal.Decimal.{Decimal}
-use Rattle.ranges.specs.Range.{is_sign, escaped_atom, mark_atom, sign_atom, number_or, atom_at, offsets_from, offsets_at, with_offsets, after_atom, ending_at, double, after_first, range_at}
+use Rattle.ranges.specs.Range.{is_sign, escaped_atom, mark_atom, sign_atom, number_or, atom_at, offsets_from, offsets_at, with_offsets, after_atom, ending_at, double, after_first, range_at, AtomRead, RangeRead}
 use Rattle.ranges.specs.Bounds.{off_stop, off_bare, off_value, off_large}
 use Rattle.ranges.specs.declared.range.RangeEndingType.{RangeEndingType}
-use Rattle.ranges.specs.declared.range.AtomRead.{AtomRead}
-use Rattle.ranges.specs.declared.range.OffsetsRead.{OffsetsRead}
 use Rattle.ranges.specs.declared.range.RangeEnding.{RangeEnding}
-use Rattle.ranges.specs.declared.range.EndingRead.{EndingRead}
 use Rattle.ranges.specs.declared.range.RangeSearchInit.{RangeSearchInit}
 use Rattle.ranges.specs.declared.range.RangeSpec.{RangeSpec}
-use Rattle.ranges.specs.declared.range.RangeRead.{RangeRead}
 use Rattle.reading.specs.Line.{skip_byte, word_at}
-use Rattle.reading.specs.declared.line.WordRead.{WordRead}
 use Rattle.utf8.specs.Utf8.{utf8_at, whole}
 use Rattle.utf8.specs.Utf8Laws.{ascii_on}
+use Rattle.limits.specs.declared.refusal.Refusal.{Refusal}
 
 -- kinds of bytes that are ASCII ----------------------------------------------------------------------------------------------------------
 
@@ -149,39 +145,39 @@ module _ (s : List ℕ) where
   -- digits and offsets -----------------------------------------------------------------------------------------------------------------------
 
   abbrev DecimalSame : ℕ → Decimal → Type 0
-  DecimalSame i Decimal.Absent = Unit {0}
-  DecimalSame i (Decimal.Value n j) = f i ≡ f j
-  DecimalSame i Decimal.TooLarge = Unit {0}
+  DecimalSame i (Ok None) = Unit {0}
+  DecimalSame i (Ok (Some (n, j))) = f i ≡ f j
+  DecimalSame i (Err why) = Unit {0}
 
   digits_same : (i : ℕ) → DecimalSame i (digits_at s i)
   unfolding digits_at digits_from run_at
   digits_same i = go (eqb (run_from is_digit i (drop i s)) i) (ltb (value_from 0 (drop i s)) (2 ^ 64))
     where
-      go : (t u : Bool) → DecimalSame i (cond t Decimal.Absent (cond u (Decimal.Value (value_from 0 (drop i s)) (run_from is_digit i (drop i s))) Decimal.TooLarge))
+      go : (t u : Bool) → DecimalSame i (cond {A = Decimal} t (Ok None) (cond u (Ok (Some (value_from 0 (drop i s), run_from is_digit i (drop i s)))) (Err Refusal.NumberTooLarge)))
       go true u = tt
       go false true = run_same is_digit (below is_digit no_digit) i
       go false false = tt
 
   -- a number ends where its digits do
-  value_ends : (i n j : ℕ) → digits_from i (drop i s) ≡ Decimal.Value n j → run_at is_digit s i ≡ j
+  value_ends : (i n j : ℕ) → digits_from i (drop i s) ≡ Ok (Some (n, j)) → run_at is_digit s i ≡ j
   unfolding digits_from run_at
   value_ends i n j h = go (eqb (run_from is_digit i (drop i s)) i) (ltb (value_from 0 (drop i s)) (2 ^ 64)) h
     where
       r : ℕ
       r = run_from is_digit i (drop i s)
 
-      go : (t u : Bool) → cond t Decimal.Absent (cond u (Decimal.Value (value_from 0 (drop i s)) r) Decimal.TooLarge) ≡ Decimal.Value n j → r ≡ j
+      go : (t u : Bool) → cond {A = Decimal} t (Ok None) (cond u (Ok (Some (value_from 0 (drop i s), r))) (Err Refusal.NumberTooLarge)) ≡ Ok (Some (n, j)) → r ≡ j
       go true u k = let z : ◌≡◌ {A = ℕ} 0 1 = cc in absurd (omega arith)
-      go false true k = cc
+      go false true k = (found_parts (value_from 0 (drop i s)) n r j k).1
       go false false k = let z : ◌≡◌ {A = ℕ} 0 1 = cc in absurd (omega arith)
 
-  abbrev OffsetsSame : ℕ → OffsetsRead → Type 0
-  OffsetsSame i (OffsetsRead.End j) = f i ≡ f j
-  OffsetsSame i OffsetsRead.TooLarge = Unit {0}
+  abbrev OffsetsSame : ℕ → Result ℕ Refusal → Type 0
+  OffsetsSame i (Ok j) = f i ≡ f j
+  OffsetsSame i (Err why) = Unit {0}
 
-  offsets_past : (i j : ℕ) (r : OffsetsRead) → f i ≡ f j → OffsetsSame j r → OffsetsSame i r
-  offsets_past i j (OffsetsRead.End k) e h = e ∙ h
-  offsets_past i j OffsetsRead.TooLarge e h = tt
+  offsets_past : (i j : ℕ) (r : Result ℕ Refusal) → f i ≡ f j → OffsetsSame j r → OffsetsSame i r
+  offsets_past i j (Ok k) e h = e ∙ h
+  offsets_past i j (Err why) e h = tt
 
   -- xs is what s has from i on, and its first k bytes are digits
   offsets_from_lem : (xs : List ℕ) (k i : ℕ) → drop i s ≡ xs → i + k ≤ run_at is_digit s i → OffsetsSame i (offsets_from k i xs)
@@ -204,13 +200,13 @@ module _ (s : List ℕ) where
       go : (t : Bool) (n : Decimal) → is_sign b ≡ t → digits_from (i + 1) bs ≡ n →
           ((k : ℕ) → drop (i + 1) s ≡ bs → i + 1 + k ≤ run_at is_digit s (i + 1) → OffsetsSame (i + 1) (offsets_from k (i + 1) bs)) → OffsetsSame i (offsets_from 0 i (b ∷ bs))
       go false n t e r = rw (off_stop i b bs t) refl
-      go true Decimal.Absent t e r =
+      go true (Ok None) t e r =
           rw (off_bare i b bs t e) (offsets_past i (i + 1) (offsets_from 0 (i + 1) bs) (signed t) (r 0 p.rest (omega (arith, run_at_le is_digit s (i + 1)))))
-      go true (Decimal.Value n j) t e r =
+      go true (Ok (Some (n, j))) t e r =
           let q = value_ends (i + 1) n j (ap (digits_from (i + 1)) p.rest ∙ e) in
           rw (off_value i b bs n j t e)
           (offsets_past i (i + 1) (offsets_from (j - (i + 1)) (i + 1) bs) (signed t) (r (j - (i + 1)) p.rest (omega (arith, run_at_le is_digit s (i + 1), q))))
-      go true Decimal.TooLarge t e r = rw (off_large i b bs t e) tt
+      go true (Err why) t e r = rw (off_large i b bs t e) tt
 
   offsets_same : (i : ℕ) → OffsetsSame i (offsets_at s i)
   unfolding offsets_at
@@ -219,9 +215,9 @@ module _ (s : List ℕ) where
   -- atoms ---------------------------------------------------------------------------------------------------------------------------------------
 
   abbrev AtomSame : ℕ → AtomRead → Type 0
-  AtomSame i AtomRead.Absent = Unit {0}
-  AtomSame i (AtomRead.Found a j) = f i ≡ f j
-  AtomSame i AtomRead.TooLarge = Unit {0}
+  AtomSame i (Ok None) = Unit {0}
+  AtomSame i (Ok (Some (a, j))) = f i ≡ f j
+  AtomSame i (Err why) = Unit {0}
 
   -- a test on a byte, and what stands in each arm
   byte_test : (i b c : ℕ) (x y : AtomRead) → (b ≡ c → AtomSame i x) → AtomSame i y → AtomSame i (cond (eqb b c) x y)
@@ -243,7 +239,7 @@ module _ (s : List ℕ) where
     unfolding mark_atom is_mark
     mark_same e = go (is_mark (byte_at s (i + 1))) refl
       where
-        go : (t : Bool) → is_mark (byte_at s (i + 1)) ≡ t → AtomSame i (cond t (AtomRead.Found (RangeEndingType.Mark (byte_at s (i + 1))) (i + 2)) AtomRead.Absent)
+        go : (t : Bool) → is_mark (byte_at s (i + 1)) ≡ t → AtomSame i (cond {A = AtomRead} t (Ok (Some (RangeEndingType.Mark (byte_at s (i + 1)), i + 2))) (Ok None))
         go true q = two_same i (byte_at s (i + 1)) (nonzero is_mark (byte_at s (i + 1)) refl q) (below is_mark no_mark (byte_at s (i + 1)) q) e refl
         go false q = tt
 
@@ -258,9 +254,9 @@ module _ (s : List ℕ) where
 
     number_same : (d : Decimal) (a : AtomRead) → DecimalSame i d → AtomSame i a → AtomSame i (number_or d a)
     unfolding number_or
-    number_same Decimal.Absent a h k = k
-    number_same (Decimal.Value n j) a h k = h
-    number_same Decimal.TooLarge a h k = tt
+    number_same (Ok None) a h k = k
+    number_same (Ok (Some (n, j))) a h k = h
+    number_same (Err why) a h k = tt
 
     atom_same : AtomSame i (atom_at s i)
     unfolding atom_at
@@ -268,46 +264,46 @@ module _ (s : List ℕ) where
 
   -- ends and ranges -------------------------------------------------------------------------------------------------------------------------------
 
-  abbrev EndingSame : ℕ → EndingRead → Type 0
-  EndingSame i (EndingRead.Found l) = f i ≡ f l.to
-  EndingSame i EndingRead.TooLarge = Unit {0}
+  abbrev EndingSame : ℕ → Result RangeEnding Refusal → Type 0
+  EndingSame i (Ok l) = f i ≡ f l.to
+  EndingSame i (Err why) = Unit {0}
 
-  with_same : (i : ℕ) (a : RangeEndingType) (j : ℕ) (r : OffsetsRead) → f i ≡ f j → OffsetsSame j r → EndingSame i (with_offsets a j r)
+  with_same : (i : ℕ) (a : RangeEndingType) (j : ℕ) (r : Result ℕ Refusal) → f i ≡ f j → OffsetsSame j r → EndingSame i (with_offsets a j r)
   unfolding with_offsets
-  with_same i a j (OffsetsRead.End k) e h = e ∙ h
-  with_same i a j OffsetsRead.TooLarge e h = tt
+  with_same i a j (Ok k) e h = e ∙ h
+  with_same i a j (Err why) e h = tt
 
   after_same : (i : ℕ) (a : AtomRead) → AtomSame i a → EndingSame i (after_atom s i a)
   unfolding after_atom
-  after_same i AtomRead.Absent h = with_same i RangeEndingType.Unspecified i (offsets_at s i) refl (offsets_same i)
-  after_same i (AtomRead.Found a j) h = with_same i a j (offsets_at s j) h (offsets_same j)
-  after_same i AtomRead.TooLarge h = tt
+  after_same i (Ok None) h = with_same i RangeEndingType.Unspecified i (offsets_at s i) refl (offsets_same i)
+  after_same i (Ok (Some (a, j))) h = with_same i a j (offsets_at s j) h (offsets_same j)
+  after_same i (Err why) h = tt
 
   ending_same : (i : ℕ) → EndingSame i (ending_at s i)
   unfolding ending_at
   ending_same i = after_same i (atom_at s i) (atom_same i)
 
   abbrev pub RangeSame : ℕ → RangeRead → Type 0
-  RangeSame i RangeRead.Absent = Unit {0}
-  RangeSame i (RangeRead.Found g j) = f i ≡ f j
-  RangeSame i RangeRead.TooLarge = Unit {0}
+  RangeSame i (Ok None) = Unit {0}
+  RangeSame i (Ok (Some (g, j))) = f i ≡ f j
+  RangeSame i (Err why) = Unit {0}
 
-  double_same : (i : ℕ) (l : RangeEnding) (p : RangeSearchInit) (m : ℕ) (r : EndingRead) → f i ≡ f m → EndingSame m r → RangeSame i (double l p r)
+  double_same : (i : ℕ) (l : RangeEnding) (p : RangeSearchInit) (m : ℕ) (r : Result RangeEnding Refusal) → f i ≡ f m → EndingSame m r → RangeSame i (double l p r)
   unfolding double
-  double_same i l p m (EndingRead.Found x) e h = e ∙ h
-  double_same i l p m EndingRead.TooLarge e h = tt
+  double_same i l p m (Ok x) e h = e ∙ h
+  double_same i l p m (Err why) e h = tt
 
-  first_same : (i : ℕ) (r : EndingRead) → EndingSame i r → RangeSame i (after_first s i r)
+  first_same : (i : ℕ) (r : Result RangeEnding Refusal) → EndingSame i r → RangeSame i (after_first s i r)
   unfolding after_first
-  first_same i EndingRead.TooLarge h = tt
-  first_same i (EndingRead.Found l) h = go (eqb (byte_at s l.to) 0x2C) (eqb (byte_at s l.to) 0x3B) (eqb l.to i) refl refl
+  first_same i (Err why) h = tt
+  first_same i (Ok l) h = go (eqb (byte_at s l.to) 0x2C) (eqb (byte_at s l.to) 0x3B) (eqb l.to i) refl refl
     where
       two : (c : ℕ) (p : RangeSearchInit) → 0 < c → c < 0x80 → eqb (byte_at s l.to) c ≡ true → RangeSame i (double l p (ending_at s (l.to + 1)))
       two c p z k q = double_same i l p (l.to + 1) (ending_at s (l.to + 1)) (h ∙ byte_same l.to c z k (eqb-true (byte_at s l.to) c q)) (ending_same (l.to + 1))
 
       go : (t u v : Bool) → eqb (byte_at s l.to) 0x2C ≡ t → eqb (byte_at s l.to) 0x3B ≡ u →
           RangeSame i (cond t (double l RangeSearchInit.Cursor (ending_at s (l.to + 1)))
-          (cond u (double l RangeSearchInit.Start (ending_at s (l.to + 1))) (cond v RangeRead.Absent (RangeRead.Found (RangeSpec.Single l) l.to))))
+          (cond u (double l RangeSearchInit.Start (ending_at s (l.to + 1))) (cond v (Ok None) (Ok (Some (RangeSpec.Single l, l.to))))))
       go true u v e g = two 0x2C RangeSearchInit.Cursor (omega arith) (omega arith) e
       go false true v e g = two 0x3B RangeSearchInit.Start (omega arith) (omega arith) g
       go false false true e g = tt
@@ -319,16 +315,16 @@ module _ (s : List ℕ) where
 
   -- words ------------------------------------------------------------------------------------------------------------------------------------------
 
-  abbrev pub WordSame : ℕ → WordRead → Type 0
-  WordSame i (WordRead.Word j k) = (f i ≡ f j) × (f i ≡ f k)
-  WordSame i WordRead.Bad = Unit {0}
+  abbrev pub WordSame : ℕ → Option (ℕ × ℕ) → Type 0
+  WordSame i (Some (j, k)) = (f i ≡ f j) × (f i ≡ f k)
+  WordSame i None = Unit {0}
 
   pub word_same : (i : ℕ) → WordSame i (word_at s i)
   unfolding word_at
   word_same i = go (eqb (byte_at s i) 0x21) (eqb (run_at is_word s i) i) (leb (length s) i) (eqb (byte_at s i) 0x0A) refl refl
     where
-      go : (a b c d : Bool) → eqb (byte_at s i) 0x21 ≡ a → eqb (byte_at s i) 0x0A ≡ d → WordSame i (cond a (WordRead.Word (i + 1) (i + 1))
-          (cond b (cond c (WordRead.Word i i) (cond d (WordRead.Word i (i + 1)) WordRead.Bad)) (WordRead.Word (run_at is_word s i) (run_at is_word s i))))
+      go : (a b c d : Bool) → eqb (byte_at s i) 0x21 ≡ a → eqb (byte_at s i) 0x0A ≡ d → WordSame i (cond a (Some (i + 1, i + 1))
+          (cond b (cond c (Some (i, i)) (cond d (Some (i, i + 1)) None)) (Some (run_at is_word s i, run_at is_word s i))))
       go true b c d p q = let e = byte_same i 0x21 (omega arith) (omega arith) (eqb-true (byte_at s i) 0x21 p) in (e, e)
       go false true true d p q = (refl, refl)
       go false true false true p q = (refl, byte_same i 0x0A (omega arith) (omega arith) (eqb-true (byte_at s i) 0x0A q))

@@ -1,6 +1,6 @@
 -- The tokens of a line and its reading: the tokens of the lead, those of one kind, and what an accepted reading finds.
 -- Look for `tokens_word`, `tokens_range`, `tokens_bang`, `argument_read`, `left_behind`. Assumes nothing.
-use Rattle.std.specs.Prelude.{◌≡◌, Bool, true, not, leb, ltb}
+use Rattle.std.specs.Prelude.{◌≡◌, Bool, true, not, leb, ltb, Ok, Option, Some, None}
 use Rattle.std.proofs.Math.Path.{refl, ap}
 use Rattle.std.proofs.Common.{◌∙◌, arith}
 use Rattle.std.proofs.Math.Bool.{false, cond}
@@ -13,11 +13,9 @@ use borrow.Author.Tests.{ltb-true, ltb-false, lt-ltb, le-ltb, eq-eqb, ne_eqb}
 use Rattle.scan.specs.Bytes.{is_space, is_text}
 use Rattle.scan.specs.Scan.{run_at, byte_at}
 use Rattle.lists.specs.Lists.{item_at}
-use Rattle.lists.specs.declared.text.TextEnd.{TextEnd}
 use Rattle.reading.specs.Line.{skip_byte, start_of, reading_of}
 use Rattle.reading.specs.LineLaws.{Parsed, parsed}
 use Rattle.reading.specs.declared.line.CommandDescription.{CommandDescription}
-use Rattle.reading.specs.declared.line.CommandRead.{CommandRead}
 use Rattle.scanner.specs.Tokens.{token, end_token, lead_word, lead_of, Piece, pieces, up_to, piece_at, parted, newline_token, item_token, argument_token, token_at, tokens_from, tokens_at, tokens_of}
 use Rattle.scanner.specs.Cover.{kind_no, of_kind, some}
 use Rattle.scanner.specs.LeadLaws.{Upto, upto_le, lead_inside, lead_upto, lead_parsed}
@@ -104,16 +102,16 @@ argument_kind : (s : List ℕ) (i : ℕ) → 4 ≤ kind_no (argument_token s i).
 unfolding argument_token newline_token item_token kind_no
 argument_kind s i = go (leb (length s) i) (is_space (byte_at s i)) (eqb (byte_at s i) 0x0A) (eqb (i + 1) (length s)) (item_at s i)
   where
-    item : (t : TextEnd) → 4 ≤ kind_no (item_token s i t).kind
-    item TextEnd.Bad = omega arith
-    item (TextEnd.End j) = by_end (parted s j) (eqb (byte_at s i) 0x22)
+    item : (t : Option ℕ) → 4 ≤ kind_no (item_token s i t).kind
+    item None = omega arith
+    item (Some j) = by_end (parted s j) (eqb (byte_at s i) 0x22)
       where
         by_end : (a b : Bool) → 4 ≤ kind_no (cond a (cond b (token TokenKind.Quoted i j) (token TokenKind.Text i j)) (token TokenKind.Unlisted i (run_at is_text s i))).kind
         by_end true true = omega arith
         by_end true false = omega arith
         by_end false b = omega arith
 
-    go : (a b c d : Bool) (t : TextEnd) → 4 ≤ kind_no (cond a (end_token s) (cond b (token TokenKind.Space i (run_at is_space s i))
+    go : (a b c d : Bool) (t : Option ℕ) → 4 ≤ kind_no (cond a (end_token s) (cond b (token TokenKind.Space i (run_at is_space s i))
         (cond c (cond d (token TokenKind.Newline i (i + 1)) (token TokenKind.Left i (length s))) (item_token s i t)))).kind
     go true b c d t = omega arith
     go false true c d t = omega arith
@@ -158,7 +156,7 @@ some_none : (k : TokenKind) (i : ℕ) → some k i i ≡ []
 unfolding some
 some_none k i = rw (le-ltb i i (omega arith))
 
-module _ (s : List ℕ) (d : CommandDescription) (h : reading_of s ≡ CommandRead.Command d) where
+module _ (s : List ℕ) (d : CommandDescription) (h : reading_of s ≡ Ok d) where
   read : Parsed s d
   read = parsed s d h
 

@@ -1,6 +1,6 @@
 -- Where tokens stop: none that starts before the argument's end goes past it, since no item holds a 0x0A; and none of the argument is
 -- left over. Look for `item_stop`, `line_stop`, `line_kind`. Assumes nothing.
-use Rattle.std.specs.Prelude.{◌≡◌, Bool, cond, not, List, [], ◌∷◌, ℕ, ◌+◌, ◌<◌, ◌≤◌, leb, length, drop}
+use Rattle.std.specs.Prelude.{◌≡◌, Bool, cond, not, List, [], ◌∷◌, ℕ, ◌+◌, ◌<◌, ◌≤◌, leb, length, drop, Option, Some, None}
 use Rattle.std.proofs.Math.Path.{refl}
 use Rattle.std.proofs.Common.{◌∙◌, sym, ap}
 use Rattle.std.proofs.Math.Bool.{true, false}
@@ -14,8 +14,6 @@ use Rattle.scan.specs.Scan.{run_from, run_at, byte_at}
 use Rattle.scan.specs.RunLaws.{run_yes, run_no, run_le, run_at_on, run_at_le, run_at_within, run_at_ends, run_at_starts, run_at_later, byte_inside}
 use Rattle.lists.specs.Text.{quoted_escape, plain_escape, escape_of, own, stop_at, text_end_from, text_end_at}
 use Rattle.lists.specs.Lists.{item_of, item_at}
-use Rattle.lists.specs.declared.text.Escape.{Escape}
-use Rattle.lists.specs.declared.text.TextEnd.{TextEnd}
 use Rattle.scanner.specs.Tokens.{token, end_token, lead_of, pieces, parted, item_token, argument_token, token_at}
 use Rattle.scanner.specs.Cover.{kind_no}
 use Rattle.scanner.specs.LeadLaws.{piece_good, lead_inside, lead_upto}
@@ -72,9 +70,9 @@ space_stop s i = run_among is_space is_text space_text i (drop i s)
 -- texts and items ---------------------------------------------------------------------------------------------------------------------
 
 -- what ends with d bytes before e, or more, if it ends
-abbrev Ends : ℕ → ℕ → TextEnd → Type 0
-Ends d e (TextEnd.End j) = j + d ≤ e
-Ends d e TextEnd.Bad = Unit {0}
+abbrev Ends : ℕ → ℕ → Option ℕ → Type 0
+Ends d e (Some j) = j + d ≤ e
+Ends d e None = Unit {0}
 
 -- 0x0A ends a text, whether a backslash stands before it or not
 text_newline : (q e : Bool) (i : ℕ) (bs : List ℕ) → Ends (cond q 1 0) i (text_end_from q e i (0x0A ∷ bs))
@@ -88,7 +86,7 @@ stop_ends : (q : Bool) (i b e : ℕ) → i + 1 ≤ e → Ends (cond q 1 0) e (st
 unfolding stop_at
 stop_ends true i b e h = go (eqb b 0x22)
   where
-    go : (t : Bool) → Ends 1 e (cond t (TextEnd.End i) TextEnd.Bad)
+    go : (t : Bool) → Ends 1 e (cond t (Some i) None)
     go true = h
     go false = tt
 stop_ends false i b e h = omega arith
@@ -100,13 +98,13 @@ module _ (q : Bool) (i b : ℕ) where
   unfolding text_end_from
   text_on true bs r = go (escape_of q b)
     where
-      go : (t : Escape) → Ends (cond q 1 0) (run_from is_text (i + 1) bs) (elim t as (λ x. TextEnd) [ Escape.Byte c ↦ text_end_from q false (i + 1) bs | Escape.Bad ↦ TextEnd.Bad ])
-      go (Escape.Byte c) = r false
-      go Escape.Bad = tt
+      go : (t : Option ℕ) → Ends (cond q 1 0) (run_from is_text (i + 1) bs) (elim t as (λ x. Option ℕ) [ Some c ↦ text_end_from q false (i + 1) bs | None ↦ None ])
+      go (Some c) = r false
+      go None = tt
   text_on false bs r = go (own q b) (eqb b 0x5C)
     where
       go : (t u : Bool) → Ends (cond q 1 0) (run_from is_text (i + 1) bs)
-          (elim t as (λ x. TextEnd) [ true ↦ text_end_from q false (i + 1) bs | false ↦ elim u as (λ x. TextEnd) [ true ↦ text_end_from q true (i + 1) bs | false ↦ stop_at q i b ] ])
+          (elim t as (λ x. Option ℕ) [ true ↦ text_end_from q false (i + 1) bs | false ↦ elim u as (λ x. Option ℕ) [ true ↦ text_end_from q true (i + 1) bs | false ↦ stop_at q i b ] ])
       go true u = r false
       go false true = r true
       go false false = stop_ends q i b (run_from is_text (i + 1) bs) (run_le is_text (i + 1) bs)
@@ -129,12 +127,12 @@ text_stop : (q : Bool) (s : List ℕ) (i : ℕ) → Ends (cond q 1 0) (run_at is
 unfolding text_end_at run_at
 text_stop q s i = text_ends q false i (drop i s)
 
-item_ends : (i d e : ℕ) (t : TextEnd) → Ends d e t → Ends 0 e (item_of i d t)
+item_ends : (i d e : ℕ) (t : Option ℕ) → Ends d e t → Ends 0 e (item_of i d t)
 unfolding item_of
-item_ends i d e TextEnd.Bad h = tt
-item_ends i d e (TextEnd.End j) h = go (eqb j i)
+item_ends i d e None h = tt
+item_ends i d e (Some j) h = go (eqb j i)
   where
-    go : (t : Bool) → Ends 0 e (cond t TextEnd.Bad (TextEnd.End (j + d)))
+    go : (t : Bool) → Ends 0 e (cond t None (Some (j + d)))
     go true = tt
     go false = omega arith
 
@@ -156,10 +154,10 @@ item_stop s i = go (eqb (byte_at s i) 0x22) refl
 -- tokens ------------------------------------------------------------------------------------------------------------------------------
 
 module _ (s : List ℕ) (i : ℕ) where
-  token_stop : (t : TextEnd) → Ends 0 (run_at is_text s i) t → (item_token s i t).stop ≤ run_at is_text s i
+  token_stop : (t : Option ℕ) → Ends 0 (run_at is_text s i) t → (item_token s i t).stop ≤ run_at is_text s i
   unfolding item_token
-  token_stop TextEnd.Bad h = omega arith
-  token_stop (TextEnd.End j) h = go (parted s j) (eqb (byte_at s i) 0x22)
+  token_stop None h = omega arith
+  token_stop (Some j) h = go (parted s j) (eqb (byte_at s i) 0x22)
     where
       go : (a b : Bool) → (cond a (cond b (token TokenKind.Quoted i j) (token TokenKind.Text i j)) (token TokenKind.Unlisted i (run_at is_text s i))).stop ≤ run_at is_text s i
       go true true = omega arith
@@ -180,9 +178,9 @@ module _ (s : List ℕ) (i : ℕ) where
   unfolding argument_token item_token kind_no
   text_kind h = rw (no_newline (byte_at s i) (run_at_starts is_text s i h)) (go (leb (length s) i) (is_space (byte_at s i)) (item_at s i))
     where
-      item : (t : TextEnd) → eqb (kind_no (item_token s i t).kind) (kind_no TokenKind.Left) ≡ false
-      item TextEnd.Bad = refl
-      item (TextEnd.End j) = ends (parted s j) (eqb (byte_at s i) 0x22)
+      item : (t : Option ℕ) → eqb (kind_no (item_token s i t).kind) (kind_no TokenKind.Left) ≡ false
+      item None = refl
+      item (Some j) = ends (parted s j) (eqb (byte_at s i) 0x22)
         where
           ends : (a b : Bool) →
               eqb (kind_no (cond a (cond b (token TokenKind.Quoted i j) (token TokenKind.Text i j)) (token TokenKind.Unlisted i (run_at is_text s i))).kind) (kind_no TokenKind.Left) ≡ false
@@ -190,7 +188,7 @@ module _ (s : List ℕ) (i : ℕ) where
           ends true false = refl
           ends false b = refl
 
-      go : (a b : Bool) (t : TextEnd) → eqb (kind_no (cond a (end_token s) (cond b (token TokenKind.Space i (run_at is_space s i)) (item_token s i t))).kind) (kind_no TokenKind.Left) ≡ false
+      go : (a b : Bool) (t : Option ℕ) → eqb (kind_no (cond a (end_token s) (cond b (token TokenKind.Space i (run_at is_space s i)) (item_token s i t))).kind) (kind_no TokenKind.Left) ≡ false
       go true b t = refl
       go false true t = refl
       go false false t = item t

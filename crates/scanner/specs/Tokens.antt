@@ -2,15 +2,12 @@
 -- The lead of a line is what document 01's section Reading names before the argument: spaces, colons, spaces, a range, a word, the bang,
 -- spaces. The argument is told apart as an argument list is; where it is no list, its rest is one token.
 -- Look for `lead_of`, `argument_token`, `token_at`, `tokens_of`; of a scanner `step_at`, `handed`; of a place `covering`. Assumes nothing.
-use Rattle.std.specs.Prelude.{ℕ, zero, suc, ◌+◌, ◌-◌, Bool, true, false, cond, ◌||◌, List, [], ◌∷◌, eqb, leb, ltb, length}
+use Rattle.std.specs.Prelude.{ℕ, zero, suc, ◌+◌, ◌-◌, Bool, true, false, cond, ◌||◌, List, [], ◌∷◌, eqb, leb, ltb, length, Ok, Err, Option, Some, None}
 use Rattle.scan.specs.Bytes.{is_space, is_colon, is_text}
 use Rattle.scan.specs.Scan.{run_at, byte_at}
-use Rattle.ranges.specs.Range.{range_at}
-use Rattle.ranges.specs.declared.range.RangeRead.{RangeRead}
+use Rattle.ranges.specs.Range.{range_at, RangeRead}
 use Rattle.lists.specs.Lists.{item_at}
-use Rattle.lists.specs.declared.text.TextEnd.{TextEnd}
 use Rattle.reading.specs.Line.{skip_byte, word_at}
-use Rattle.reading.specs.declared.line.WordRead.{WordRead}
 use Rattle.scanner.specs.declared.token.TokenKind.{TokenKind}
 use Rattle.scanner.specs.declared.token.Token.{Token}
 use Rattle.scanner.specs.declared.token.Lead.{Lead}
@@ -33,17 +30,17 @@ lead_left s a b c d =
     record { spaces = a; colons = b; start = c; range = d; word = d; newline = d; bang = d; blank = d; argument = length s }
 
 -- past the range, at d, stands a word that ends at e, and the reading goes on at k: at e, or past the 0x0A that an empty word consumes
-unfoldable pub lead_word : List ℕ → ℕ → ℕ → ℕ → ℕ → WordRead → Lead
-lead_word s a b c d (WordRead.Word e k) =
+unfoldable pub lead_word : List ℕ → ℕ → ℕ → ℕ → ℕ → Option (ℕ × ℕ) → Lead
+lead_word s a b c d (Some (e, k)) =
     let f = skip_byte s k 0x21 in
     let g = run_at is_space s f in
     record { spaces = a; colons = b; start = c; range = d; word = e; newline = k; bang = f; blank = g; argument = g }
-lead_word s a b c d WordRead.Bad = lead_left s a b c d
+lead_word s a b c d None = lead_left s a b c d
 
 unfoldable pub lead_range : List ℕ → ℕ → ℕ → ℕ → RangeRead → Lead
-lead_range s a b c RangeRead.Absent = lead_word s a b c c (word_at s c)
-lead_range s a b c (RangeRead.Found g d) = lead_word s a b c d (word_at s d)
-lead_range s a b c RangeRead.TooLarge = lead_left s a b c c
+lead_range s a b c (Ok None) = lead_word s a b c c (word_at s c)
+lead_range s a b c (Ok (Some (g, d))) = lead_word s a b c d (word_at s d)
+lead_range s a b c (Err why) = lead_left s a b c c
 
 -- where each piece of the lead ends, which is where the next one starts
 unfoldable pub lead_of : List ℕ → Lead
@@ -91,11 +88,11 @@ unfoldable pub newline_token : List ℕ → ℕ → Token
 newline_token s i = cond (eqb (i + 1) (length s)) (token TokenKind.Newline i (i + 1)) (token TokenKind.Left i (length s))
 
 -- an item at i, quoted or plain; where none can be read, the argument is no list, and its rest is one token
-unfoldable pub item_token : List ℕ → ℕ → TextEnd → Token
-item_token s i (TextEnd.End j) =
+unfoldable pub item_token : List ℕ → ℕ → Option ℕ → Token
+item_token s i (Some j) =
     cond (parted s j) (cond (eqb (byte_at s i) 0x22) (token TokenKind.Quoted i j) (token TokenKind.Text i j))
     (token TokenKind.Unlisted i (run_at is_text s i))
-item_token s i TextEnd.Bad = token TokenKind.Unlisted i (run_at is_text s i)
+item_token s i None = token TokenKind.Unlisted i (run_at is_text s i)
 
 -- the token at i of an argument and of what stands behind it
 unfoldable pub argument_token : List ℕ → ℕ → Token

@@ -1,6 +1,6 @@
 -- The tokens of a line cover it: one token, the tokens one after the other, and the bytes that they name.
 -- Look for `token_good`, `tokens_on_lem`, `tokens_cover`, `tokens_bytes`. Assumes nothing.
-use Rattle.std.specs.Prelude.{◌≡◌, Bool, cond, length, take, drop}
+use Rattle.std.specs.Prelude.{◌≡◌, Bool, cond, length, take, drop, Option, Some, None}
 use Rattle.std.proofs.Math.Path.{refl, ap}
 use Rattle.std.proofs.Common.{◌∙◌, sym, drop_of_length-le, drop-drop}
 use Rattle.std.proofs.Math.Bool.{true, false}
@@ -15,7 +15,6 @@ use Rattle.scan.specs.Scan.{run_at, byte_at, part_of}
 use Rattle.scan.specs.RunLaws.{run_at_le, run_at_on, run_at_within}
 use Rattle.lists.specs.Lists.{item_at}
 use Rattle.lists.specs.ListLaws.{item_in}
-use Rattle.lists.specs.declared.text.TextEnd.{TextEnd}
 use Rattle.scanner.specs.Tokens.{token, end_token, lead_of, pieces, piece_at, parted, newline_token, item_token, argument_token, token_at, tokens_from, tokens_at, tokens_of}
 use Rattle.scanner.specs.Cover.{Covers, bytes_of}
 use Rattle.scanner.specs.LeadLaws.{Good, piece_good, lead_inside, lead_upto}
@@ -33,10 +32,10 @@ module _ (s : List ℕ) (i : ℕ) (h : i < length s) where
   run_good : (p : ℕ → Bool) (k : TokenKind) → p (byte_at s i) ≡ true → Good i (length s) (token k i (run_at p s i))
   run_good p k e = record { starts = refl; past = omega (arith, run_at_on p s i h e, run_at_le p s (i + 1)); inside = run_at_within p s i (omega arith) }
 
-  item_good : (t : TextEnd) → item_at s i ≡ t → eqb (byte_at s i) 0x0A ≡ false → Good i (length s) (item_token s i t)
+  item_good : (t : Option ℕ) → item_at s i ≡ t → eqb (byte_at s i) 0x0A ≡ false → Good i (length s) (item_token s i t)
   unfolding item_token
-  item_good TextEnd.Bad e f = run_good is_text TokenKind.Unlisted (text_byte (byte_at s i) f)
-  item_good (TextEnd.End j) e f = go (parted s j) (eqb (byte_at s i) 0x22)
+  item_good None e f = run_good is_text TokenKind.Unlisted (text_byte (byte_at s i) f)
+  item_good (Some j) e f = go (parted s j) (eqb (byte_at s i) 0x22)
     where
       go : (a b : Bool) → Good i (length s) (cond a (cond b (token TokenKind.Quoted i j) (token TokenKind.Text i j)) (token TokenKind.Unlisted i (run_at is_text s i)))
       go true true = let r = item_in s i j e in record { starts = refl; past = r.after; inside = r.within }

@@ -1,6 +1,6 @@
 -- A line whose reading is accepted: nothing is left over, and what is of no list stands within its argument.
 -- Look for `command_left`, `command_unlisted`. Assumes nothing.
-use Rattle.std.specs.Prelude.{◌≡◌, Bool, true, false, eqb}
+use Rattle.std.specs.Prelude.{◌≡◌, Bool, true, false, eqb, Ok}
 use Rattle.std.proofs.Math.Path.{refl, sym, ap}
 use Rattle.std.proofs.Common.{◌∙◌, subst, arith}
 use mathlib.Core.List.{List, [], ◌∷◌}
@@ -14,7 +14,6 @@ use Rattle.scan.specs.RunLaws.{run_at_le, run_at_within}
 use Rattle.reading.specs.Line.{skip_byte, reading_of}
 use Rattle.reading.specs.LineLaws.{parsed, places}
 use Rattle.reading.specs.declared.line.CommandDescription.{CommandDescription}
-use Rattle.reading.specs.declared.line.CommandRead.{CommandRead}
 use Rattle.scanner.specs.Tokens.{token, lead_of, newline_token, argument_token, token_at, tokens_from, tokens_at, tokens_of}
 use Rattle.scanner.specs.Cover.{Within, kind_no, of_kind}
 use Rattle.scanner.specs.LeadLaws.{lead_inside}
@@ -93,7 +92,7 @@ module _ (s : List ℕ) (e : ℕ) (r : run_at is_text s (lead_of s).argument ≡
           rw (from_on s n i m)
           (within_on a e TokenKind.Unlisted (token_at s i) (tokens_from n s (token_at s i).stop) (omega (arith, g.starts)) p (q (omega (arith, g.past)) p))
 
-module _ (s : List ℕ) (d : CommandDescription) (h : reading_of s ≡ CommandRead.Command d) where
+module _ (s : List ℕ) (d : CommandDescription) (h : reading_of s ≡ Ok d) where
   -- where the argument ends
   argument_ends : run_at is_text s (lead_of s).argument ≡ d.stop
   argument_ends = ap (run_at is_text s) (argument_read s d h) ∙ (parsed s d h).stopped

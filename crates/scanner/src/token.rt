@@ -1,34 +1,34 @@
 // The token at a place of a line: what kind of text stands there, and where it ends.
 // The lead of a line is read by the readers of a reading, the argument by those of a list.
-ghost use Rattle.std.specs.Prelude.{◌≡◌, ◌<◌, length};
+ghost use Rattle.std.specs.Prelude.{◌≡◌, ◌<◌, length, None};
 ghost use Rattle.lists.specs.Lists.{item_at};
 ghost use Rattle.reading.specs.Line.{word_at};
 ghost use Rattle.scanner.specs.Tokens.{lead_left, lead_word, lead_of, pieces, up_to, piece_at, parted as parted_at, newline_token, item_token, argument_token, end_token, token_in, position_at, step_at, covering};
 
 use blocks::run::skip_spaces;
 use lists::list::item_of;
-use lists::text::{TextEnd, text_end};
+use lists::text::text_end;
 use ranges::range::{RangeRead, parse_any_range};
-use reading::line::{WordRead, parse_cmd_name, skip_byte};
+use reading::line::{parse_cmd_name, skip_byte};
 use scan::classes::{Class, Colon, Space, Text};
 use scan::part::byte_at;
 use scan::run::run_end;
 
 // `Newline` is a 0x0A that a reading consumes, `Unlisted` the rest of an argument that is no list, `Left` what a failed reading leaves over,
-// `End` that nothing is left.
+// `End` that nothing is left. The numbers are those over C, where 10 is a word that names a prefix.
 #[derive(Clone, Copy)]
 pub enum TokenKind {
-    Space,
-    Colon,
-    Range,
-    Word,
-    Bang,
-    Text,
-    Quoted,
-    Newline,
-    Unlisted,
-    Left,
-    End,
+    Space = 0,
+    Colon = 1,
+    Range = 2,
+    Word = 3,
+    Bang = 4,
+    Text = 5,
+    Quoted = 6,
+    Newline = 7,
+    Unlisted = 8,
+    Left = 9,
+    End = 11,
 }
 
 // A token: its first byte, and the byte past its last.
@@ -90,7 +90,7 @@ fn lead_left(s: &[u8], a: usize, b: usize, c: usize, d: usize) -> Lead
 fn lead_word(s: &[u8], a: usize, b: usize, c: usize, d: usize) -> Lead
     ensures { result ≡ lead_word s.now a b c d (word_at s.now d) }
 {
-    let WordRead::Word(e, k) = parse_cmd_name(s, d) else {
+    let Some((e, k)) = parse_cmd_name(s, d) else {
         return lead_left(s, a, b, c, d);
     };
     let f = skip_byte(s, k, 0x21);
@@ -116,9 +116,9 @@ pub fn lead_of(s: &[u8]) -> Lead
     let b = run_end::<Colon>(s, a);
     let c = skip_spaces(s, b);
     match parse_any_range(s, c) {
-        RangeRead::Absent => lead_word(s, a, b, c, c),
-        RangeRead::Found(_, d) => lead_word(s, a, b, c, d),
-        RangeRead::TooLarge => lead_left(s, a, b, c, c),
+        Ok(None) => lead_word(s, a, b, c, c),
+        Ok(Some((_, d))) => lead_word(s, a, b, c, d),
+        Err(_) => lead_left(s, a, b, c, c),
     }
 }
 
@@ -191,7 +191,7 @@ fn newline_token(s: &[u8], at: usize) -> Token
 
 // What is left of an argument from `at` on, where it is no list.
 fn unlisted_token(s: &[u8], at: usize) -> Token
-    ensures { result ≡ item_token s.now at TextEnd.Bad }
+    ensures { result ≡ item_token s.now at None }
 {
     Token {
         kind: TokenKind::Unlisted,
@@ -201,10 +201,10 @@ fn unlisted_token(s: &[u8], at: usize) -> Token
 }
 
 // The item at `at` that ends at `e`, if it ends.
-fn item_token(s: &[u8], at: usize, e: TextEnd) -> Token
+fn item_token(s: &[u8], at: usize, e: Option<usize>) -> Token
     ensures { result ≡ item_token s.now at e }
 {
-    let TextEnd::End(j) = e else {
+    let Some(j) = e else {
         return unlisted_token(s, at);
     };
     if !parted(s, j) {
@@ -226,7 +226,7 @@ fn item_token(s: &[u8], at: usize, e: TextEnd) -> Token
 
 // Where the item at `at` ends, as `item_end` of the lists says it. That one stands where a list is read, and there alone: called from here
 // too, it would no longer be put there.
-fn item_stop(s: &[u8], at: usize) -> TextEnd
+fn item_stop(s: &[u8], at: usize) -> Option<usize>
     ensures { result ≡ item_at s.now at }
 {
     if byte_at(s, at) == 0x22 {
@@ -339,6 +339,7 @@ pub fn covering_token(line: &[u8], at: usize) -> Token
         return end_token(line);
     }
     let mut here = lead_step(line, 0);
+    // Each token says where the next one starts, so there is no count that a `for` could go through.
     while here.token.stop <= at {
         let position = here.position;
         here = step_with(line, position);

@@ -1,13 +1,12 @@
 -- Laws of the calls on a session in bytes, as the code cites them: one for each way in which a call ends.
 -- Assumes nothing.
-use Rattle.std.specs.Prelude.{◌≡◌, refl, true, false, List, ℕ, leb, length}
+use Rattle.std.specs.Prelude.{◌≡◌, refl, true, false, List, ℕ, leb, length, Ok, Err}
 use Rattle.limits.specs.Limits.{last_command, alias_limit}
 use Rattle.limits.specs.Refusals.{refusal_no}
 use Rattle.limits.specs.declared.refusal.Refusal.{Refusal}
 use Rattle.context.specs.Context as context
 use Rattle.reading.specs.Alone.{check_for, line_room, at_front}
 use Rattle.reading.specs.Checks.{check_for_good, check_for_bad}
-use Rattle.reading.specs.declared.alone.Checked.{Checked}
 use Rattle.tables.specs.Table.{is_name}
 use Rattle.placing.specs.Change.{insert, is_full}
 use Rattle.layout.specs.Layout.{table_of, session_of, remembering, aliasing, sound}
@@ -36,11 +35,11 @@ module _ (b l : List ℕ) (size : ℕ) where
   unfolding line_answer line_bytes
   line_on_lem h = (rw h, rw h)
 
-  pub on_bad : (x : Refusal) → check_for (line_room l) l size ≡ Checked.Bad x → (line_on b l size ≡ turned (refusal_no x)) × (bytes_on b l size ≡ b)
+  pub on_bad : (x : Refusal) → check_for (line_room l) l size ≡ Err x → (line_on b l size ≡ turned (refusal_no x)) × (bytes_on b l size ≡ b)
   unfolding line
   on_bad x k = (check_for_bad (line_room l) l size x k turned _, check_for_bad (line_room l) l size x k (λ n. b) _)
 
-  pub on_good : check_for (line_room l) l size ≡ Checked.Good → (line_on b l size ≡ line_from (table_of (session_of b)) context.fresh l) × (bytes_on b l size ≡ remembering l b)
+  pub on_good : check_for (line_room l) l size ≡ Ok tt → (line_on b l size ≡ line_from (table_of (session_of b)) context.fresh l) × (bytes_on b l size ≡ remembering l b)
   unfolding line
   on_good k = (check_for_good (line_room l) l size k turned _, check_for_good (line_room l) l size k (λ n. b) _)
 

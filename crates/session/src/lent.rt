@@ -1,7 +1,7 @@
 // The calls on a session that rests in lent bytes. Each looks first at whether some session is written as these bytes: refusal 99.
 ghost use Rattle.std.specs.Prelude.{◌≡◌, true, ◌≤◌, length};
 ghost use Rattle.limits.specs.Limits.{line_limit, alias_limit};
-ghost use Rattle.limits.specs.Refusals.{refusal_no};
+ghost use Rattle.limits.specs.Refusals.{refusal_no, number_of, count_of};
 ghost use Rattle.reading.specs.Alone.{line_room};
 ghost use Rattle.context.specs.Context.{fresh as fresh_context};
 ghost use Rattle.placing.specs.Change.{is_full};
@@ -17,33 +17,24 @@ use layout::places::{ADDED, SESSION};
 use limits::refusal::Refusal;
 use limits::{ALIASES, LAST_COMMAND};
 use placing::insert::put;
-use reading::alone::{Checked, check_line};
+use reading::alone::check_line;
 use run::reply::LineReply;
 use run::run::run;
 use scan::part::byte_at;
 use store::put_bytes;
 use tables::find::find;
 use tables::name::is_name;
-use words::words::Named;
-
-// What reading the remembered line back answers: the refusal's number or 0, and the line's byte count.
-#[repr(C)]
-#[derive(Clone, Copy)]
-pub struct CountReply {
-    pub refusal: u64,
-    pub count: u64,
-}
 
 // Writes a fresh session; only the length of the bytes is checked.
-pub fn fresh_in(b: &mut [u8]) -> u64
-    ensures answer { result ≡ fresh_no b.old }
+pub fn fresh_in(b: &mut [u8]) -> Result<(), Refusal>
+    ensures answer { number_of result ≡ fresh_no b.old }
     ensures written { b.new ≡ fresh_bytes b.old }
 {
     if b.len() != SESSION {
-        return u64::from(Refusal::NotASession);
+        return Err(Refusal::NotASession);
     }
     clear(b);
-    0
+    Ok(())
 }
 
 // Runs a line that passed the checks, and remembers it.
@@ -79,8 +70,8 @@ pub fn line_on(b: &mut [u8], line: &[u8], store: &mut [u8]) -> LineReply
     ensures session { b.new ≡ bytes_on b.old line.now (length store.old) }
 {
     match check_line(line, store.len()) {
-        Checked::Good => run_in(b, line, store),
-        Checked::Bad(x) => turned(x),
+        Ok(()) => run_in(b, line, store),
+        Err(x) => turned(x),
     }
 }
 
@@ -102,53 +93,44 @@ fn full(b: &[u8], w: &[u8]) -> bool
     ensures { result ≡ is_full alias_limit (session_of b.now).rows w.now }
 {
     match find(b, ADDED, ALIASES, w) {
-        Named::Command(_) => false,
-        Named::Unknown => ALIASES <= byte_at(b, ADDED) as usize,
+        Some(_) => false,
+        None => ALIASES <= byte_at(b, ADDED) as usize,
     }
 }
 
 // Adds an alias, or replaces it.
-pub fn alias_in(b: &mut [u8], w: &[u8], command: u64) -> u64
-    ensures answer { result ≡ alias_no b.old w.now command }
+pub fn alias_in(b: &mut [u8], w: &[u8], command: u64) -> Result<(), Refusal>
+    ensures answer { number_of result ≡ alias_no b.old w.now command }
     ensures session { b.new ≡ alias_bytes b.old w.now command }
 {
     if !sound(b) {
-        return u64::from(Refusal::NotASession);
+        return Err(Refusal::NotASession);
     }
     if !is_name(w) {
-        return u64::from(Refusal::BadAlias);
+        return Err(Refusal::BadAlias);
     }
     if (LAST_COMMAND as u64) < command {
-        return u64::from(Refusal::BadCommand);
+        return Err(Refusal::BadCommand);
     }
     if full(b, w) {
-        return u64::from(Refusal::AliasesFull);
+        return Err(Refusal::AliasesFull);
     }
     put(b, ADDED, ALIASES, w, command as u8);
-    0
+    Ok(())
 }
 
-// Copies the remembered line to the front of the store.
-pub fn remembered_in(b: &[u8], store: &mut [u8]) -> CountReply
-    ensures refusal { result.refusal ≡ read_back_no b.now (length store.old) }
-    ensures count { result.count ≡ read_back_count b.now (length store.old) }
+// Copies the remembered line to the front of the store, and answers its byte count.
+pub fn remembered_in(b: &[u8], store: &mut [u8]) -> Result<usize, Refusal>
+    ensures refusal { number_of result ≡ read_back_no b.now (length store.old) }
+    ensures count { count_of result ≡ read_back_count b.now (length store.old) }
     ensures store { store.new ≡ read_back_store b.now store.old }
 {
     if !sound(b) {
-        return CountReply {
-            refusal: u64::from(Refusal::NotASession),
-            count: 0,
-        };
+        return Err(Refusal::NotASession);
     }
     let line = remembered(b);
     if store.len() < line.len() {
-        return CountReply {
-            refusal: u64::from(Refusal::StoreTooShort),
-            count: 0,
-        };
+        return Err(Refusal::StoreTooShort);
     }
-    CountReply {
-        refusal: 0,
-        count: put_bytes(store, 0, line) as u64,
-    }
+    Ok(put_bytes(store, 0, line))
 }

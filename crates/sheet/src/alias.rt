@@ -3,82 +3,95 @@ use blocks::run::skip_spaces;
 use calls::add_alias;
 use limits::refusal::Refusal;
 use limits::{LINE, MOST};
-use scan::decimal::{Decimal, digits};
+use scan::decimal::digits;
 use scan::part::part;
 use spots::bytes::field_end;
 use utf8::utf8::is_utf8;
-use words::words::{Named, lookup};
+use words::words::lookup;
 
-// What a line came to: 0 or a refusal, whether it has an alias (1) or nothing (0), and for 10 where the word stands that no command has.
+// What a line has: nothing, or an alias that was added.
 #[derive(Clone, Copy)]
-pub struct Added {
-    pub refusal: u64,
-    pub kind: u8,
-    pub start: usize,
-    pub stop: usize,
+pub enum Entry {
+    Nothing,
+    Alias,
 }
 
-fn plain(refusal: u64, kind: u8) -> Added {
-    Added {
-        refusal: refusal,
-        kind: kind,
-        start: 0,
-        stop: 0,
+// Why a line adds no alias: it is no word with a command, there is no such command, or the session refuses the alias.
+#[derive(Clone, Copy)]
+pub enum NoAlias<'a> {
+    Line(Refusal),
+    Unknown(&'a [u8]),
+    Session(Refusal),
+}
+
+impl<'a> NoAlias<'a> {
+    // The refusal's number.
+    pub fn refusal(self) -> u64 {
+        match self {
+            NoAlias::Line(x) | NoAlias::Session(x) => u64::from(x),
+            NoAlias::Unknown(_) => u64::from(Refusal::UnknownWord),
+        }
+    }
+
+    // The word that no command has, or nothing.
+    pub fn word(self) -> &'a [u8] {
+        match self {
+            NoAlias::Unknown(word) => word,
+            _ => &[],
+        }
     }
 }
 
 // The command that a text names: digits are its number, and anything else is one of its spellings. A number that is too large for 64
 // bits is above the last command's like others.
-fn command_of(s: &[u8]) -> Named {
+fn command_of(s: &[u8]) -> Option<u64> {
     match digits(s, 0) {
-        Decimal::Absent => lookup(s),
-        Decimal::Value(n, e) => {
+        Ok(None) => lookup(s),
+        Ok(Some((n, e))) => {
             if e == s.len() {
-                return Named::Command(n);
+                return Some(n);
             }
-            Named::Unknown
+            None
         }
-        Decimal::TooLarge => Named::Command(MOST),
+        Err(_) => Some(MOST),
     }
 }
 
 // The line's word and command, as they stand.
-fn add(session: &mut [u8], line: &[u8], w: usize, e: usize, c: usize, f: usize) -> Added {
-    match command_of(part(line, c, f)) {
-        Named::Command(n) => plain(add_alias(session, part(line, w, e), n), 1),
-        Named::Unknown => Added {
-            refusal: u64::from(Refusal::UnknownWord),
-            kind: 0,
-            start: c,
-            stop: f,
-        },
+fn add<'a>(session: &mut [u8], word: &[u8], command: &'a [u8]) -> Result<Entry, NoAlias<'a>> {
+    let Some(n) = command_of(command) else {
+        return Err(NoAlias::Unknown(command));
+    };
+    match add_alias(session, word, n) {
+        Ok(()) => Ok(Entry::Alias),
+        Err(x) => Err(NoAlias::Session(x)),
     }
 }
 
 // A line of UTF-8. One of spaces alone adds nothing.
-fn read(session: &mut [u8], line: &[u8]) -> Added {
+fn read<'a>(session: &mut [u8], line: &'a [u8]) -> Result<Entry, NoAlias<'a>> {
     let n = line.len();
     let w = skip_spaces(line, 0);
     if n <= w {
-        return plain(0, 0);
+        return Ok(Entry::Nothing);
     }
     let e = field_end(line, w);
     let c = skip_spaces(line, e);
     let f = field_end(line, c);
     if n <= c || skip_spaces(line, f) != n {
-        return plain(u64::from(Refusal::ParseFailed), 0);
+        return Err(NoAlias::Line(Refusal::ParseFailed));
     }
-    add(session, line, w, e, c, f)
+    add(session, part(line, w, e), part(line, c, f))
 }
 
 // Adds the alias of a line. Refused are, in this order: a line above 1,024 bytes or not UTF-8 (1, 2), one that is not two words (3), a
 // command that there is not (10), and what the session refuses (8, 9, 13).
-pub fn alias_line(session: &mut [u8], line: &[u8]) -> Added {
+pub fn alias_line<'a>(session: &mut [u8], line: &'a [u8]) -> Result<Entry, NoAlias<'a>> {
     if LINE < line.len() {
-        return plain(u64::from(Refusal::LineTooLong), 0);
+        return Err(NoAlias::Line(Refusal::LineTooLong));
     }
     if !is_utf8(line) {
-        return plain(u64::from(Refusal::NotUtf8), 0);
+        return Err(NoAlias::Line(Refusal::NotUtf8));
     }
     read(session, line)
 }

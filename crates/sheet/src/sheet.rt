@@ -1,333 +1,216 @@
 // A sheet: bytes cut into lines, and each line run or added as an alias and told, in fixed memory. 0x0A ends a line and is no part of it; a
 // last line may go without.
-ghost use Rattle.std.specs.Prelude.{◌≤◌, length};
-
-use super::alias::{Added, alias_line};
+use super::alias::{Entry, NoAlias, alias_line};
 use calls::run_line;
-use console::file::{Sum, ended, no_sum, summed, tell_of};
-use console::report::{Report, flush_full, up_to};
-use console::told::Errors;
+use console::file::{Sum, read_part};
+use console::report::Report;
+use console::told::{Errors, Failure};
 use limits::{LINE, STORE};
 use replies::{put_alias_told, put_line_told};
 use run::reply::LineReply;
-use scan::classes::Text;
-use scan::part::{byte_at, part};
-use scan::run::run_end;
+use scan::part::part;
 use std::io::Read;
 use tally::{COUNTS, tallied};
-use texts::put::put_text;
+use texts::page::Page;
 
-// How far a sheet is: whether its lines are aliases, how many lines were told, whether one of them ends in a carriage return, how many bytes
-// of the next one are held, what was read, and the report.
+// What the lines of a sheet are: lines to run; aliases; or what is only looked at, whether it is aliases. Of the last nothing is told, and
+// it is read no further where a line is no word with a command.
+#[derive(Clone, Copy, PartialEq, Eq)]
+pub enum Kind {
+    Lines,
+    Aliases,
+    Looked,
+}
+
+// A sheet that was read: the sum of its bytes, and whether one of its lines ends in a carriage return, as lines of other systems' files do.
 #[derive(Clone, Copy)]
-pub struct Sheet {
-    pub aliases: bool,
-    pub number: u64,
-    pub returns: bool,
-    pub held: usize,
+pub struct Done {
     pub sum: Sum,
-    pub report: Report,
+    pub returns: bool,
 }
 
-// A sheet that starts.
-pub fn start(aliases: bool, r: Report) -> Sheet {
-    Sheet {
-        aliases: aliases,
-        number: 0,
-        returns: false,
-        held: 0,
-        sum: no_sum(),
-        report: r,
-    }
-}
-
-// Nothing more is read, since something failed or not.
-fn stopped(s: Sheet, good: bool) -> Sheet {
-    let sum = s.sum;
-    let mut t = s;
-    t.sum = ended(sum, good);
-    t
-}
-
-// Where the line ends that starts at `at`: at the first 0x0A, or at the end of the bytes.
-fn line_end(s: &[u8], at: usize) -> usize
-    requires { at ≤ length s.now }
-    ensures from { at ≤ result }
-    ensures within { result ≤ length s.now }
-{
-    run_end::<Text>(s, at)
-}
-
-fn next(n: u64) -> u64 {
-    n.wrapping_add(1)
-}
-
-// One line more is told, and the report then ends at `at`.
-fn with_line(
-    rt: &(impl Print + Errors),
-    s: Sheet,
-    out: &[u8],
+// A sheet that is run: what its lines are, the session, where a line's record is stored, the counts, the report, how many lines were told,
+// and whether one of them ends in a carriage return.
+#[derive(Drop)]
+struct Sheet<'a, 'r> {
+    kind: Kind,
+    session: &'a mut [u8],
+    store: &'a mut [u8],
+    counts: &'a mut [u64; COUNTS],
+    report: &'a mut Report<'r>,
     number: u64,
-    at: usize,
-    returned: bool,
-) -> Sheet {
-    let report = s.report;
-    let mut t = s;
-    t.number = number;
-    t.returns = returned;
-    t.held = 0;
-    t.report = flush_full(rt, out, up_to(report, at));
-    t
+    returns: bool,
 }
 
-// A file whose report is not shown is only looked at: it is read no further where a line is no word with a command.
-fn looked_at(s: Sheet, added: Added) -> Sheet {
-    let report = s.report;
-    if report.shown || added.refusal == 0 || added.kind == 1 {
-        return s;
-    }
-    stopped(s, false)
-}
-
-// A line of an alias file is told, if it was refused.
-fn with_alias(
-    rt: &(impl Print + Errors),
-    line: &[u8],
-    counts: &mut [u64; COUNTS],
-    out: &mut [u8],
-    s: Sheet,
-    added: Added,
-) -> Sheet {
-    let number = next(s.number);
-    let refusal = added.refusal;
-    let report = s.report;
-    let word = part(line, added.start, added.stop);
-    let at = put_alias_told(out, report.at, number, refusal, word, line);
+// What is counted of a line of an alias file: what it answers, and the kind of what it gives.
+fn counted(added: Result<Entry, NoAlias<'_>>) -> (LineReply, u8) {
+    let (refusal, kind) = match added {
+        Ok(Entry::Nothing) => (0, 0),
+        Ok(Entry::Alias) => (0, 1),
+        Err(why) => (why.refusal(), 0),
+    };
     let reply = LineReply {
-        refusal: refusal,
+        refusal,
         readings: 0,
         count: 0,
     };
-    let kind = [added.kind];
-    tallied(counts, reply, &kind);
-    let t = with_line(rt, s, out, number, at, s.returns);
-    looked_at(t, added)
+    (reply, kind)
 }
 
-// Adds the alias of a line.
-fn alias_told(
-    rt: &(impl Print + Errors),
-    session: &mut [u8],
-    line: &[u8],
-    counts: &mut [u64; COUNTS],
-    out: &mut [u8],
-    s: Sheet,
-) -> Sheet {
-    let added = alias_line(session, line);
-    with_alias(rt, line, counts, out, s, added)
-}
-
-// Whether a line ends in a carriage return, as lines of other systems' files do, or one before it did.
-fn returns(before: bool, line: &[u8]) -> bool {
-    before || byte_at(line, line.len().wrapping_sub(1)) == 0x0D
-}
-
-// Runs a line, counts it, and tells from `at` on what it came to; a refused one is shown.
+// Runs a line, counts it, and tells what it came to; a refused one is shown.
 fn line_told(
     session: &mut [u8],
     line: &[u8],
     store: &mut [u8],
     counts: &mut [u64; COUNTS],
-    out: &mut [u8],
+    page: &mut Page<'_>,
     number: u64,
-    at: usize,
-) -> usize {
+) {
     let reply = run_line(session, line, store);
     let written = part(store, 0, reply.count as usize);
     tallied(counts, reply, written);
-    put_line_told(out, at, number, reply, written, session, line)
+    put_line_told(page, number, reply, written, session, line);
 }
 
-// The line that is held.
-fn held_told(
-    rt: &(impl Print + Errors),
-    session: &mut [u8],
-    line: &[u8],
-    store: &mut [u8],
-    counts: &mut [u64; COUNTS],
-    out: &mut [u8],
-    s: Sheet,
-) -> Sheet {
-    let text = part(line, 0, s.held);
-    if s.aliases {
-        return alias_told(rt, session, text, counts, out, s);
-    }
-    let number = next(s.number);
-    let report = s.report;
-    let at = line_told(session, text, store, counts, out, number, report.at);
-    with_line(rt, s, out, number, at, returns(s.returns, text))
-}
-
-// With so many bytes held.
-fn holding(s: Sheet, held: usize) -> Sheet {
-    let mut t = s;
-    t.held = held;
-    t
-}
-
-// Bytes of a line, and whether it ends there: they are held behind those that are. A line that is too long keeps as many as show it.
-fn taken(
-    rt: &(impl Print + Errors),
-    session: &mut [u8],
-    line: &mut [u8],
-    store: &mut [u8],
-    counts: &mut [u64; COUNTS],
-    out: &mut [u8],
-    s: Sheet,
-    text: &[u8],
-    ends: bool,
-) -> Sheet {
-    let held = put_text(line, s.held, text);
-    let t = holding(s, held);
-    if ends {
-        return held_told(rt, session, line, store, counts, out, t);
-    }
-    t
-}
-
-// Goes through bytes that were read. A line of a sheet that stands whole in them is run where it lies, and the sheet goes on in place; the
-// bytes of others are held.
-fn through(
-    rt: &(impl Print + Errors),
-    session: &mut [u8],
-    line: &mut [u8],
-    store: &mut [u8],
-    counts: &mut [u64; COUNTS],
-    out: &mut [u8],
-    s: Sheet,
-    bytes: &[u8],
-) -> Sheet {
-    let mut t = s;
-    let mut i: usize = 0;
-    while i < bytes.len() {
-        let from = i;
-        let e = line_end(bytes, from);
-        let text = part(bytes, from, e);
-        i = e + 1;
-        if e < bytes.len() && t.held == 0 && !t.aliases {
-            let number = next(t.number);
-            let report = t.report;
-            let at = line_told(session, text, store, counts, out, number, report.at);
-            t.number = number;
-            t.returns = returns(t.returns, text);
-            t.report = flush_full(rt, out, up_to(report, at));
-            continue;
-        }
-        t = taken(
-            rt,
-            session,
+impl<'a, 'r> Sheet<'a, 'r> {
+    // One line more, which is run.
+    fn line(&mut self, rt: &(impl Print + Errors), line: &[u8]) {
+        self.number = self.number.wrapping_add(1);
+        self.returns = self.returns || line.ends_with(b"\r");
+        line_told(
+            self.session,
             line,
-            store,
-            counts,
-            out,
-            t,
-            text,
-            e < bytes.len(),
+            self.store,
+            self.counts,
+            &mut self.report.page,
+            self.number,
         );
+        self.report.flush_full(rt);
     }
-    t
-}
 
-// Nothing is left to read; a last line may be held.
-fn last(
-    rt: &(impl Print + Errors),
-    session: &mut [u8],
-    line: &[u8],
-    store: &mut [u8],
-    counts: &mut [u64; COUNTS],
-    out: &mut [u8],
-    s: Sheet,
-) -> Sheet {
-    if s.held > 0 {
-        let t = held_told(rt, session, line, store, counts, out, s);
-        return stopped(t, true);
-    }
-    stopped(s, true)
-}
-
-// Goes on only while the report can be written.
-fn while_written(s: Sheet) -> Sheet {
-    let report = s.report;
-    if report.good {
-        return s;
-    }
-    stopped(s, false)
-}
-
-// Bytes that were read: they are added to the sum, and their lines are told.
-fn with_bytes(
-    rt: &(impl Print + Errors),
-    session: &mut [u8],
-    line: &mut [u8],
-    store: &mut [u8],
-    counts: &mut [u64; COUNTS],
-    out: &mut [u8],
-    s: Sheet,
-    bytes: &[u8],
-) -> Sheet {
-    let sum = s.sum;
-    let mut t = s;
-    t.sum = summed(sum, bytes);
-    let u = through(rt, session, line, store, counts, out, t, bytes);
-    while_written(u)
-}
-
-// Reads once. What cannot be read is told.
-fn turn<F: Read>(
-    rt: &(impl Print + Errors),
-    file: &mut F,
-    name: &[u8],
-    session: &mut [u8],
-    line: &mut [u8],
-    store: &mut [u8],
-    counts: &mut [u64; COUNTS],
-    out: &mut [u8],
-    s: Sheet,
-) -> Sheet {
-    let mut bytes = [0u8; 65536];
-    match file.read(&mut bytes) {
-        Err(e) => {
-            let report = s.report;
-            let p = report.program;
-            tell_of(rt, p, name, e);
-            stopped(s, false)
+    // A line that adds no alias is told. A sheet that is only looked at ends there, unless the session refused the alias.
+    fn no_alias(
+        &mut self,
+        rt: &(impl Print + Errors),
+        line: &[u8],
+        why: NoAlias<'_>,
+    ) -> Result<(), Failure> {
+        if self.kind == Kind::Looked {
+            return match why {
+                NoAlias::Session(_) => Ok(()),
+                _ => Err(Failure),
+            };
         }
-        Ok(0) => last(rt, session, line, store, counts, out, s),
-        Ok(n) => with_bytes(rt, session, line, store, counts, out, s, part(&bytes, 0, n)),
+        put_alias_told(
+            &mut self.report.page,
+            self.number,
+            why.refusal(),
+            why.word(),
+            line,
+        );
+        self.report.flush_full(rt);
+        Ok(())
+    }
+
+    // Adds the alias of a line, counts it, and tells it if it was refused.
+    fn alias(&mut self, rt: &(impl Print + Errors), line: &[u8]) -> Result<(), Failure> {
+        let added = alias_line(self.session, line);
+        let (reply, kind) = counted(added);
+        tallied(self.counts, reply, &[kind]);
+        self.number = self.number.wrapping_add(1);
+        match added {
+            Ok(_) => Ok(()),
+            Err(why) => self.no_alias(rt, line, why),
+        }
+    }
+
+    // The line that is held ends.
+    fn held(&mut self, rt: &(impl Print + Errors), held: &mut Page<'_>) -> Result<(), Failure> {
+        let r = match self.kind {
+            Kind::Lines => {
+                self.line(rt, held.written());
+                Ok(())
+            }
+            _ => self.alias(rt, held.written()),
+        };
+        held.cut(0);
+        r
+    }
+
+    // Goes through bytes that were read. A line of a sheet that stands whole in them is run where it lies; the bytes of others are held. A
+    // line that is too long keeps as many as show it.
+    fn through(
+        &mut self,
+        rt: &(impl Print + Errors),
+        held: &mut Page<'_>,
+        bytes: &[u8],
+    ) -> Result<(), Failure> {
+        for line in bytes.split_inclusive(|b| *b == b'\n') {
+            match line.strip_suffix(b"\n") {
+                Some(text) if self.kind == Kind::Lines && held.len() == 0 => self.line(rt, text),
+                Some(text) => {
+                    held.text(text);
+                    self.held(rt, held)?;
+                }
+                None => held.text(line),
+            }
+        }
+        Ok(())
+    }
+
+    // Reads the sheet to its end, but only while the report can be written. A proved loop has to end, so it counts its turns up to a number
+    // that no run reaches.
+    fn read<F: Read>(
+        &mut self,
+        rt: &(impl Print + Errors),
+        file: &mut F,
+        name: &[u8],
+        held: &mut Page<'_>,
+    ) -> Result<Sum, Failure> {
+        let mut bytes = [0u8; 65536];
+        let mut sum = Sum::new();
+        for _ in 0..u64::MAX {
+            let text = read_part(rt, self.report.program(), file, name, &mut bytes)?;
+            if text.is_empty() {
+                break;
+            }
+            sum.add(text);
+            self.through(rt, held, text)?;
+            self.report.written()?;
+        }
+        Ok(sum)
     }
 }
 
-// Runs a whole sheet, whose name is for messages, and counts its lines. The store is long enough for any line that is not too long. A proved
-// loop has to end, so it counts its turns up to a number that no run reaches.
+// Runs a whole sheet, whose name is for messages, and counts its lines. What fails is told. The store is long enough for any line that is not
+// too long. A last line without an end is no reason to give the sheet up.
 pub fn run<F: Read>(
     rt: &(impl Print + Errors),
     file: &mut F,
     name: &[u8],
+    kind: Kind,
     session: &mut [u8],
     counts: &mut [u64; COUNTS],
-    out: &mut [u8],
-    s: Sheet,
-) -> Sheet {
+    report: &mut Report<'_>,
+) -> Result<Done, Failure> {
     let mut line = [0u8; LINE + 1];
     let mut store = [0u8; STORE + 1];
-    let mut t = s;
-    for _ in 0..u64::MAX {
-        if !t.sum.more {
-            break;
-        }
-        t = turn(
-            rt, file, name, session, &mut line, &mut store, counts, out, t,
-        );
+    let mut held = Page::new(&mut line);
+    let mut sheet = Sheet {
+        kind,
+        session,
+        store: &mut store,
+        counts,
+        report,
+        number: 0,
+        returns: false,
+    };
+    let sum = sheet.read(rt, file, name, &mut held)?;
+    if held.len() > 0 {
+        let _ = sheet.held(rt, &mut held);
     }
-    t
+    Ok(Done {
+        sum,
+        returns: sheet.returns,
+    })
 }

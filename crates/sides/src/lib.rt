@@ -7,15 +7,14 @@ use differences::differ::{Pair, Place, Report};
 use files::file::Unread;
 use reports::kind::{Kind, kind_of};
 use reports::text::first_line;
-use texts::put::{put_decimal, put_text};
+use texts::page::Page;
 
 // How many bytes of a line are shown.
 const SHOWN: usize = 4096;
 
-// How far the text was written, and the kind of the line in each report.
+// The kind of the line in each report.
 #[derive(Clone, Copy)]
 pub struct Both {
-    pub at: usize,
     pub a: Kind,
     pub b: Kind,
 }
@@ -43,44 +42,48 @@ fn kind_at(line: Option<&[u8]>) -> Kind {
 }
 
 // A line of a report as it stands, or as much of it as is shown.
-fn put_line(out: &mut [u8], at: usize, line: &[u8]) -> usize {
-    let shown = &line[..line.len().min(SHOWN)];
-    let i = put_text(out, at, shown);
+fn put_line(page: &mut Page<'_>, line: &[u8]) {
+    page.text(&line[..line.len().min(SHOWN)]);
     if line.len() > SHOWN {
-        return put_text(out, i, b"...\n");
+        page.text(b"...");
     }
-    put_text(out, i, b"\n")
+    page.text(b"\n");
 }
 
 // A report's name, and a line of it.
-fn put_side(out: &mut [u8], at: usize, name: &[u8], line: Option<&[u8]>) -> usize {
-    let i = put_text(out, at, name);
-    let j = put_text(out, i, b": ");
+fn put_side(page: &mut Page<'_>, name: &[u8], line: Option<&[u8]>) {
+    page.text(name);
+    page.text(b": ");
     match line {
-        Some(text) => put_line(out, j, text),
-        None => put_text(out, j, b"(the report ends here)\n"),
+        Some(text) => put_line(page, text),
+        None => page.text(b"(the report ends here)\n"),
     }
 }
 
 // The number of a line that differs.
-fn put_place(out: &mut [u8], line: u64) -> usize {
-    let i = put_text(out, 0, b"first difference: line ");
-    let j = put_decimal(out, i, line);
-    put_text(out, j, b" of the reports\n")
+fn put_place(page: &mut Page<'_>, line: u64) {
+    page.text(b"first difference: line ");
+    page.decimal(line);
+    page.text(b" of the reports\n");
 }
 
 // The line at a place, as it stands in each report.
-pub fn put_both(rt: &impl Errors, out: &mut [u8], r: Pair<'_>, p: Place) -> Result<Both, Unread> {
+pub fn put_both(
+    rt: &impl Errors,
+    page: &mut Page<'_>,
+    r: Pair<'_>,
+    p: Place,
+) -> Result<Both, Unread> {
     let mut x = [0u8; 65536];
     let of_a = line_at(rt, r.a, p.a, &mut x);
     let mut y = [0u8; 65536];
     let of_b = line_at(rt, r.b, p.b, &mut y);
     let a = of_a?;
     let b = of_b?;
-    let i = put_place(out, p.line);
-    let j = put_side(out, i, r.a.name, a);
+    put_place(page, p.line);
+    put_side(page, r.a.name, a);
+    put_side(page, r.b.name, b);
     Ok(Both {
-        at: put_side(out, j, r.b.name, b),
         a: kind_at(a),
         b: kind_at(b),
     })

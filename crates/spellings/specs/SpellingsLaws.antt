@@ -1,7 +1,7 @@
 -- What is said of the spellings as a whole: there are 68, each once and in byte order; they are the shipped words, and each leads to the
 -- command that stands beside it.
 -- Assumes nothing.
-use Rattle.std.specs.Prelude.{◌≡◌, refl, Bool, true, false, cond, ◌&&◌, List, [], ◌∷◌, ℕ, suc, ◌+◌, ◌<◌, ◌≤◌, eqb, ltb, length, drop}
+use Rattle.std.specs.Prelude.{◌≡◌, refl, Bool, true, false, cond, ◌&&◌, List, [], ◌∷◌, ℕ, suc, ◌+◌, ◌<◌, ◌≤◌, eqb, ltb, length, drop, Option, Some, None}
 use Rattle.std.proofs.Common.{sym, ◌∙◌, ap, add-one, arith, eq-eqb, ne_eqb, le-ltb}
 use Rattle.std.proofs.lemmas.Bool.{false≢true}
 use Rattle.std.proofs.Math.ListN.{drop_of_length-le}
@@ -10,7 +10,6 @@ use Rattle.scan.specs.Scan.{byte_at}
 use Rattle.words.specs.Words.{Row, aliases, names, shipped, same, lookup_in, lookup}
 use Rattle.words.specs.Order.{is_before}
 use Rattle.words.specs.LookupLaws.{same_eq, lookup_here, lookup_past}
-use Rattle.words.specs.declared.words.Named.{Named}
 use Rattle.spellings.specs.Rows.{row}
 use Rattle.spellings.specs.Spellings.{insert_before, in_order, word_of}
 
@@ -21,18 +20,18 @@ before_self [] = refl
 before_self (x ∷ w) = let e : ltb x x ≡ false = le-ltb x x (omega arith) in rw (e, eq-eqb x x refl) (before_self w)
 
 -- what a word leads to once another is inserted
-lookup_insert : (w v : List ℕ) (c : ℕ) (rs : List Row) → lookup_in (insert_before w c rs) v ≡ cond (same v w) (Named.Command c) (lookup_in rs v)
+lookup_insert : (w v : List ℕ) (c : ℕ) (rs : List Row) → lookup_in (insert_before w c rs) v ≡ cond (same v w) (Some c) (lookup_in rs v)
 unfolding insert_before lookup_in
 lookup_insert w v c [] = go (same v w) refl
   where
-    go : (b : Bool) → same v w ≡ b → lookup_in (row w c ∷ []) v ≡ cond b (Named.Command c) Named.Unknown
+    go : (b : Bool) → same v w ≡ b → lookup_in (row w c ∷ []) v ≡ cond b (Some c) None
     go true e = lookup_here (row w c) [] v e
     go false e = lookup_past (row w c) [] v e
 lookup_insert w v c (r ∷ rs) = go (is_before r.word w) (same w r.word) (same v w) (same v r.word) refl refl refl refl (lookup_insert w v c rs)
   where
     go : (b s p q : Bool) → is_before r.word w ≡ b → same w r.word ≡ s → same v w ≡ p → same v r.word ≡ q →
-        lookup_in (insert_before w c rs) v ≡ cond (same v w) (Named.Command c) (lookup_in rs v) →
-        lookup_in (cond b (r ∷ insert_before w c rs) (row w c ∷ cond s rs (r ∷ rs))) v ≡ cond p (Named.Command c) (lookup_in (r ∷ rs) v)
+        lookup_in (insert_before w c rs) v ≡ cond (same v w) (Some c) (lookup_in rs v) →
+        lookup_in (cond b (r ∷ insert_before w c rs) (row w c ∷ cond s rs (r ∷ rs))) v ≡ cond p (Some c) (lookup_in (r ∷ rs) v)
     go true s true true e f g h ih = absurd (false≢true (sym (before_self w) ∙ ap (λ u. is_before u w) (sym (same_eq v w g) ∙ same_eq v r.word h) ∙ e))
     go true s false true e f g h ih = lookup_here r (insert_before w c rs) v h ∙ sym (lookup_here r rs v h)
     go true s true false e f g h ih = lookup_past r (insert_before w c rs) v h ∙ ih ∙ rw g
@@ -46,9 +45,9 @@ pub in_order_lookup : (rs : List Row) (w : List ℕ) → lookup_in (in_order rs)
 unfolding in_order lookup_in
 in_order_lookup [] w = refl
 in_order_lookup (r ∷ rs) w =
-    lookup_insert r.word w r.command (in_order rs) ∙ (ap (cond (same w r.word) (Named.Command r.command)) (in_order_lookup rs w) ∙ go (same w r.word))
+    lookup_insert r.word w r.command (in_order rs) ∙ (ap (cond (same w r.word) (Some r.command)) (in_order_lookup rs w) ∙ go (same w r.word))
   where
-    go : (b : Bool) → cond b (Named.Command r.command) (lookup_in rs w) ≡ elim b as (λ x. Named) [ true ↦ Named.Command r.command | false ↦ lookup_in rs w ]
+    go : (b : Bool) → cond b (Some r.command) (lookup_in rs w) ≡ elim b as (λ x. (Option ℕ)) [ true ↦ Some r.command | false ↦ lookup_in rs w ]
     go true = refl
     go false = refl
 
@@ -89,7 +88,7 @@ module _ (v w : List ℕ) (i : ℕ) where
   unfolding same
   same_end h k = rw (drop_of_length-le v h, drop_of_length-le w k)
 
-pub lookup_none : (w : List ℕ) → lookup_in [] w ≡ Named.Unknown
+pub lookup_none : (w : List ℕ) → lookup_in [] w ≡ None
 unfolding lookup_in
 lookup_none w = refl
 
@@ -109,9 +108,9 @@ pub spellings_ascend : ascending (in_order shipped) ≡ true
 unfolding in_order insert_before is_before same shipped aliases names
 spellings_ascend = refl
 
-abbrev leads : Named → ℕ → Bool
-leads (Named.Command c) d = eqb c d
-leads Named.Unknown d = false
+abbrev leads : Option ℕ → ℕ → Bool
+leads (Some c) d = eqb c d
+leads None d = false
 
 abbrev pub all_lead : List Row → Bool
 all_lead [] = true

@@ -1,5 +1,4 @@
 pub mod Spot
-pub mod SpotLaws
 pub mod Text
 pub mod TextLaws
 pub mod Utf8

@@ -1,6 +1,6 @@
 -- The text that the last reading of a line read, and the place of a word that no command has.
 -- Assumes nothing.
-use Rattle.std.specs.Prelude.{◌≡◌, ℕ, ◌-◌, true, List}
+use Rattle.std.specs.Prelude.{◌≡◌, ℕ, ◌-◌, List, Option, IsSomeAnd}
 use Rattle.scan.specs.Scan.{part_of}
 use Rattle.words.specs.Words.{Row}
 use Rattle.context.specs.Context.{fresh}
@@ -21,7 +21,7 @@ abbrev pub LastText : List ℕ → ℕ → ℕ → ℕ → Type 0
 LastText line m f t = (table : List Row) → (line_from table fresh line).readings ≡ m → Reached table line (m - 1) f t
 
 -- where the line ends after m readings with a word that no command has, the place r is that of the word
-abbrev pub UnknownAt : List ℕ → ℕ → Spot → Type 0
+abbrev pub UnknownAt : List ℕ → ℕ → Option Spot → Type 0
 UnknownAt line m r =
     (table : List Row) (w : List ℕ) →
-    line_from table fresh line ≡ after m (Out.unknown w) → (r.found ≡ true) × (part_of line r.start r.stop ≡ w)
+    line_from table fresh line ≡ after m (Out.unknown w) → IsSomeAnd r (λ s. part_of line s.start s.stop ≡ w)

@@ -1,6 +1,6 @@
 -- Laws of the text that a line's last reading read: where the walk over prefixes starts and goes on, and the word that ends it.
 -- Assumes nothing.
-use Rattle.std.specs.Prelude.{◌≡◌, ℕ, ◌+◌, ◌-◌, ◌<◌, ◌≤◌, Bool, true, false, cond, List, length, ◌==◌, ◌≢◌}
+use Rattle.std.specs.Prelude.{◌≡◌, ℕ, ◌+◌, ◌-◌, ◌<◌, ◌≤◌, Bool, true, false, cond, List, length, ◌==◌, ◌≢◌, Ok, Err, Option, Some, None}
 use Rattle.std.proofs.Math.Path.{refl, ap}
 use Rattle.std.proofs.Common.{◌∙◌}
 use native.Mathlib.Omega.{arith}
@@ -10,20 +10,17 @@ use Rattle.scan.specs.Scan.{run_at, part_of}
 use Rattle.scan.specs.RunLaws.{run_at_le, run_at_within}
 use Rattle.scan.specs.PartLaws.{part_length}
 use Rattle.ranges.specs.Bounds.{In}
-use Rattle.reading.specs.Line.{reading_of}
+use Rattle.reading.specs.Line.{reading_of, CommandRead}
 use Rattle.reading.specs.LineLaws.{Parsed, parsed, places}
 use Rattle.reading.specs.declared.line.CommandDescription.{CommandDescription}
-use Rattle.reading.specs.declared.line.CommandRead.{CommandRead}
 use Rattle.scanner.specs.Tokens.{lead_word, lead_of, pieces}
 use Rattle.scanner.specs.LeadLaws.{lead_inside, lead_upto, lead_parsed}
 use Rattle.scanner.specs.declared.token.Lead.{Lead}
 use Rattle.context.specs.Context.{fresh}
 use Rattle.context.specs.declared.context.CommandContext.{CommandContext}
-use Rattle.focus.specs.Focus.{focus_of}
-use Rattle.focus.specs.declared.focus.Focused.{Focused}
-use Rattle.handlers.specs.declared.done.Done.{Done}
+use Rattle.focus.specs.Focus.{focus_of, Focused}
+use Rattle.handlers.specs.Done.{Done}
 use Rattle.words.specs.Words.{Row, lookup_in}
-use Rattle.words.specs.declared.words.Named.{Named}
 use Rattle.commands.specs.Handle.{role_of, handle_of}
 use Rattle.commands.specs.Run.{by_focus, by_role, by_name, by_reading, decide, Out, step, run_on, line_from}
 use Rattle.commands.specs.RunLaws.{run_is, prefix_of}
@@ -47,8 +44,8 @@ lead_places s =
 
 focus_known : (d : CommandDescription) (f : Focused) (a e : ℕ) → by_focus d f ≢ Next.Unknown a e
 unfolding by_focus
-focus_known d (Focused.To f) a e h = let z : ◌≡◌ {A = ℕ} 0 1 = cc in omega arith
-focus_known d (Focused.Refused i) a e h = let z : ◌≡◌ {A = ℕ} 0 1 = cc in omega arith
+focus_known d (Ok f) a e h = let z : ◌≡◌ {A = ℕ} 0 1 = cc in omega arith
+focus_known d (Err i) a e h = let z : ◌≡◌ {A = ℕ} 0 1 = cc in omega arith
 
 role_known : (s : List ℕ) (d : CommandDescription) (i : ℕ) (r : Role) (a e : ℕ) → by_role s d i r ≢ Next.Unknown a e
 unfolding by_role
@@ -70,17 +67,16 @@ module _ (table : List Row) where
   unfolding decide by_reading by_name
   worded_of s a e h = go (reading_of s) refl h
     where
-      named : (d : CommandDescription) (m : Named) → Parsed s d → d.word < d.end → by_name s d m ≡ Next.Unknown a e → Worded s a e
-      named d (Named.Command i) p z g = absurd (role_known s d i (role_of i) a e g)
-      named d Named.Unknown p z g =
+      named : (d : CommandDescription) (m : Option ℕ) → Parsed s d → d.word < d.end → by_name s d m ≡ Next.Unknown a e → Worded s a e
+      named d (Some i) p z g = absurd (role_known s d i (role_of i) a e g)
+      named d None p z g =
           let b : d.word ≡ a = cc in
           let k : d.end ≡ e = cc in
           record { its = d; its_parts = p; wordy = omega arith; begins = b; stops = k }
 
       go : (r : CommandRead) → reading_of s ≡ r → by_reading table s r ≡ Next.Unknown a e → Worded s a e
-      go CommandRead.Failed q x = let z : ◌≡◌ {A = ℕ} 0 1 = cc in absurd (omega arith)
-      go CommandRead.TooLarge q x = let z : ◌≡◌ {A = ℕ} 0 1 = cc in absurd (omega arith)
-      go (CommandRead.Command d) q x = by (d.word == d.end) refl x
+      go (Err why) q x = let z : ◌≡◌ {A = ℕ} 0 1 = cc in absurd (omega arith)
+      go (Ok d) q x = by (d.word == d.end) refl x
         where
           by : (b : Bool) → (d.word == d.end) ≡ b → cond b Next.Empty (by_name s d (lookup_in table (part_of s d.word d.end))) ≡ Next.Unknown a e → Worded s a e
           by true y g = let z : ◌≡◌ {A = ℕ} 0 1 = cc in absurd (omega arith)
@@ -158,8 +154,8 @@ module _ (table : List Row) where
           ended o g = ap (λ r. r.out) (g ∙ k)
 
           done : (z : Done) (a e : ℕ) → done_at line z a e ≢ Out.unknown w
-          done (Done.Act i) a e g = let z : ◌≡◌ {A = ℕ} 0 1 = cc in omega arith
-          done (Done.Refused i) a e g = let z : ◌≡◌ {A = ℕ} 0 1 = cc in omega arith
+          done (Ok i) a e g = let z : ◌≡◌ {A = ℕ} 0 1 = cc in omega arith
+          done (Err i) a e g = let z : ◌≡◌ {A = ℕ} 0 1 = cc in omega arith
 
           go : (v : Next) → decide table text ≡ v → Place
           go Next.Empty q = let g = ended _ (held_empty table line h.context n f t h.stop h.held q) in let z : ◌≡◌ {A = ℕ} 0 1 = cc in absurd (omega arith)

@@ -3,7 +3,7 @@ ghost use Rattle.std.specs.Prelude.{length};
 ghost use Rattle.spots.specs.Spot.{Placed};
 
 use super::bytes::{byte_spot, field_end, trimmed};
-use super::spot::{Spot, nowhere_in, spot_in};
+use super::spot::{Spot, spot_in};
 use blocks::run::skip_spaces;
 use limits::refusal::Refusal;
 
@@ -32,7 +32,7 @@ fn fields_of(line: &[u8]) -> Fields {
 }
 
 // What stands behind two fields; where there is one field only, that.
-fn odd_spot(line: &[u8], f: Fields) -> Spot
+fn odd_spot(line: &[u8], f: Fields) -> Option<Spot>
     ensures { Placed (length line.now) result }
 {
     let n = line.len();
@@ -42,7 +42,7 @@ fn odd_spot(line: &[u8], f: Fields) -> Spot
     spot_in(line, f.more, trimmed(line, f.more, n))
 }
 
-fn refusal_spot(line: &[u8], x: Refusal) -> Spot
+fn refusal_spot(line: &[u8], x: Refusal) -> Option<Spot>
     ensures { Placed (length line.now) result }
 {
     let f = fields_of(line);
@@ -53,16 +53,16 @@ fn refusal_spot(line: &[u8], x: Refusal) -> Spot
         Refusal::AliasesFull => spot_in(line, f.word, f.end),
         Refusal::BadCommand => spot_in(line, f.command, f.stop),
         Refusal::UnknownWord => spot_in(line, f.command, f.stop),
-        _ => nowhere_in(line),
+        _ => None,
     }
 }
 
 // The place in a line of an alias file that was refused so.
-pub fn alias_spot(line: &[u8], refusal: u64) -> Spot
+pub fn alias_spot(line: &[u8], refusal: u64) -> Option<Spot>
     ensures { Placed (length line.now) result }
 {
     match Refusal::try_from(refusal) {
         Ok(x) => refusal_spot(line, x),
-        Err(_) => nowhere_in(line),
+        Err(_) => None,
     }
 }

@@ -3,74 +3,62 @@ ghost use Rattle.std.specs.Prelude.{length};
 ghost use Rattle.spots.specs.Spot.{Placed};
 ghost use Rattle.spots.specs.Utf8.{BadAt, Utf8UpTo};
 
-use super::spot::{Spot, between, nowhere, nowhere_in, spot_in};
+use super::spot::{Spot, between, spot_in};
 use scan::classes::{Class, Digit, Space};
-use scan::decimal::{Decimal, digits};
+use scan::decimal::digits;
 use scan::part::{byte_at, part};
 use scan::run::run_end;
 use utf8::utf8::is_utf8;
 
 // Where the bytes that are no spaces end.
 pub fn field_end(s: &[u8], at: usize) -> usize {
-    let mut i = at;
-    while i < s.len() {
+    for i in at..s.len() {
         if Space::has(s[i]) {
             return i;
         }
-        i += 1;
     }
-    i
+    at.max(s.len())
 }
 
 // The end of what stands from `a` up to `e`, without the spaces behind it.
 pub fn trimmed(s: &[u8], a: usize, e: usize) -> usize {
-    let mut i = e;
-    while a < i {
-        if !Space::has(byte_at(s, i - 1)) {
-            return i;
+    for i in (a..e).rev() {
+        if !Space::has(byte_at(s, i)) {
+            return i + 1;
         }
-        i -= 1;
     }
-    i
+    a.min(e)
 }
 
 // Whether the digits at `at` are a number that is too large.
 fn too_large_at(s: &[u8], at: usize) -> bool {
-    match digits(s, at) {
-        Decimal::Absent => false,
-        Decimal::Value(_, _) => false,
-        Decimal::TooLarge => true,
-    }
+    digits(s, at).is_err()
 }
 
 // The first digits that are a number that is too large.
-pub fn digits_spot(s: &[u8]) -> Spot {
-    let mut i: usize = 0;
-    while i < s.len() {
+pub fn digits_spot(s: &[u8]) -> Option<Spot> {
+    for i in 0..s.len() {
         if too_large_at(s, i) {
-            return between(i, run_end::<Digit>(s, i));
+            return Some(between(i, run_end::<Digit>(s, i)));
         }
-        i += 1;
     }
-    nowhere()
+    None
 }
 
 // Where the longest part from the front on that is UTF-8 ends.
 fn utf8_end(line: &[u8]) -> usize
     ensures { Utf8UpTo line.now result }
 {
-    let mut n = line.len();
-    while 0 < n {
-        if is_utf8(part(line, 0, n)) {
-            return n;
+    for i in (0..line.len()).rev() {
+        if is_utf8(part(line, 0, i + 1)) {
+            return i + 1;
         }
-        n -= 1;
     }
-    n
+    0
 }
 
 // The first byte at which no character of UTF-8 stands.
-pub fn byte_spot(line: &[u8]) -> Spot
+pub fn byte_spot(line: &[u8]) -> Option<Spot>
     ensures placed { Placed (length line.now) result }
     ensures bad { BadAt line.now result }
 {
@@ -78,5 +66,5 @@ pub fn byte_spot(line: &[u8]) -> Spot
     if n < line.len() {
         return spot_in(line, n, n + 1);
     }
-    nowhere_in(line)
+    None
 }

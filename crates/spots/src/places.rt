@@ -1,7 +1,7 @@
 // The place in a text that the refusal of its reading is about.
 
 use super::bytes::{digits_spot, trimmed};
-use super::spot::{Spot, between, nowhere};
+use super::spot::{Spot, between};
 use layout::lookup::words_of;
 use limits::refusal::Refusal;
 use limits::{LINE, STORE};
@@ -69,15 +69,15 @@ fn ends_spot(session: &[u8], s: &[u8], l: Lead, refusal: u64) -> Spot {
 }
 
 // The place in a text.
-pub fn text_spot(session: &[u8], s: &[u8], x: Refusal) -> Spot {
+pub fn text_spot(session: &[u8], s: &[u8], x: Refusal) -> Option<Spot> {
     let l = lead_of(s);
     match x {
-        Refusal::ParseFailed => unread_spot(s, l),
+        Refusal::ParseFailed => Some(unread_spot(s, l)),
         Refusal::NumberTooLarge => digits_spot(s),
-        Refusal::InvalidArgument => argument_spot(s, l),
-        Refusal::InvalidRange => ends_spot(session, s, l, u64::from(x)),
-        Refusal::SumTooLarge => ends_spot(session, s, l, u64::from(x)),
-        Refusal::Unimplemented => word_spot(l),
-        _ => nowhere(),
+        Refusal::InvalidArgument => Some(argument_spot(s, l)),
+        Refusal::InvalidRange => Some(ends_spot(session, s, l, u64::from(x))),
+        Refusal::SumTooLarge => Some(ends_spot(session, s, l, u64::from(x))),
+        Refusal::Unimplemented => Some(word_spot(l)),
+        _ => None,
     }
 }

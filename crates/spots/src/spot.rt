@@ -1,56 +1,33 @@
 // A place in a line.
-ghost use Rattle.std.specs.Prelude.{◌≡◌, ◌<◌, ◌≤◌, length};
-ghost use Rattle.spots.specs.Spot.{Placed, from_to, unfound};
+ghost use Rattle.std.specs.Prelude.{◌≡◌, ◌<◌, ◌≤◌, length, Some};
+ghost use Rattle.spots.specs.Spot.{Placed, from_to};
 
-// The place's first byte, and the byte past its last; both are 0 where no place can be told.
+// The place's first byte, and the byte past its last.
 #[derive(Clone, Copy)]
 pub struct Spot {
-    pub found: bool,
     pub start: usize,
     pub stop: usize,
-}
-
-// No place can be told.
-pub fn nowhere() -> Spot
-    ensures { result ≡ unfound }
-{
-    Spot {
-        found: false,
-        start: 0,
-        stop: 0,
-    }
 }
 
 // The place from `a` up to `e`.
 pub fn between(a: usize, e: usize) -> Spot
     ensures { result ≡ from_to a e }
 {
-    Spot {
-        found: true,
-        start: a,
-        stop: e,
-    }
+    Spot { start: a, stop: e }
 }
 
 // The place from `a` up to `e` of a line, if bytes of it stand there.
-pub fn spot_in(line: &[u8], a: usize, e: usize) -> Spot
+pub fn spot_in(line: &[u8], a: usize, e: usize) -> Option<Spot>
     ensures placed { Placed (length line.now) result }
-    ensures same { a < e → e ≤ length line.now → result ≡ from_to a e }
+    ensures same { a < e → e ≤ length line.now → result ≡ Some (from_to a e) }
 {
     if e <= a {
-        return nowhere();
+        return None;
     }
     if line.len() < e {
-        return nowhere();
+        return None;
     }
-    between(a, e)
-}
-
-// No place of a line can be told.
-pub fn nowhere_in(line: &[u8]) -> Spot
-    ensures { Placed (length line.now) result }
-{
-    spot_in(line, 0, 0)
+    Some(between(a, e))
 }
 
 // The sum of two places, where it is one.

@@ -26,6 +26,7 @@ pub fn last_text(line: &[u8], readings: u64) -> Text
     let mut from = skip_spaces(line, 0);
     let mut to = line.len();
     let mut left = readings;
+    // The turns are told by how many readings are left, which is what the walk is stated by.
     while 1 < left {
         let s = part(line, from, to);
         let l = lead_of(s);
@@ -38,7 +39,7 @@ pub fn last_text(line: &[u8], readings: u64) -> Text
 }
 
 // The word of a line's last reading.
-pub fn unknown_spot(line: &[u8], readings: u64) -> Spot
+pub fn unknown_spot(line: &[u8], readings: u64) -> Option<Spot>
     ensures placed { Placed (length line.now) result }
     ensures word { UnknownAt line.now readings result }
 {

@@ -22,6 +22,7 @@ pub fn put_number(store: &mut [u8], at: usize, n: u64) -> usize
 {
     let mut i = at;
     let mut left = n;
+    // How many groups there are is told by what is left of the number.
     while 128 <= left {
         store[i] = (left % 128 + 128) as u8;
         left = left / 128;

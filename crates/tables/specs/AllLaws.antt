@@ -1,27 +1,36 @@
--- Bytes in a row that are all of one kind: by what is known of each place.
+-- Bytes in a row that are all of one class are all of a wider one; a letter by its place in the alphabet, and a word's byte by comparisons;
+-- classes told by a number.
 -- Assumes nothing.
-use Rattle.std.specs.Prelude.{◌≡◌, ℕ, zero, suc, ◌+◌, ◌-◌, ◌*◌, ◌/◌, ◌%◌, ◌^◌, ◌<◌, ◌≤◌, Bool, true, false, ◌&&◌, ◌||◌, List, [], ◌∷◌, length, drop, ◌==◌, nat_eq, nat_le, nat_lt}
+use Rattle.std.specs.Prelude.{◌≡◌, ℕ, ◌+◌, ◌-◌, ◌*◌, ◌/◌, ◌%◌, ◌^◌, ◌<◌, Bool, true, false, ◌&&◌, ◌||◌, List, [], ◌∷◌, ◌==◌, nat_eq, nat_le, nat_lt, length, take, max, get_or}
+use Rattle.std.specs.List.{list_all}
 use Rattle.std.proofs.Math.Path.{refl}
-use Rattle.std.proofs.Common.{sym, ◌∙◌, ap, arith, get_or-take, get_or-drop, ltb-true, ltb-false, eqb-true, leb-true, leb-false, le-leb}
-use Rattle.std.proofs.lemmas.Bool.{false≢true, eqb-false, lt-leb}
-use Rattle.std.proofs.Math.Bool.{and-false, or_assoc}
-use Rattle.limits.specs.Limits.{last_command}
+use Rattle.std.proofs.Common.{sym, ◌∙◌, ap, arith, lt-ltb, le-ltb, eqb-true, leb-true, leb-false, le-leb, ltb-true, ltb-false}
+use Rattle.std.proofs.lemmas.Bool.{eqb-false, lt-leb}
+use Rattle.std.proofs.Math.Bool.{or_assoc}
+use Rattle.std.proofs.lemmas.List.Folds.{list_all_more}
 use Rattle.scan.specs.Bytes.{within, is_letter, is_word}
-use Rattle.scan.specs.Scan.{byte_at, part_of}
-use Rattle.scan.specs.PartLaws.{part_length}
 use Rattle.fields.specs.BoolLaws.{and_both, and_of}
-use Rattle.tables.specs.Kinds.{passes}
-use Rattle.tables.specs.Walk.{all_of}
-use Rattle.tables.specs.declared.bytes.Asked.{Asked}
 
--- a kind ---------------------------------------------------------------------------------------------------------------------------------------------
+pub all_wider : (p q : ℕ → Bool) → ((b : ℕ) → p b ≡ true → q b ≡ true) → (xs : List ℕ) → list_all p xs ≡ true → list_all q xs ≡ true
+all_wider p q f [] h = refl
+all_wider p q f (x ∷ xs) h = let k = and_both (p x) (list_all p xs) h in and_of (f x k.0) (all_wider p q f xs k.1)
 
--- what `x || y` is, by how it came
-pub or_then : {x z : Bool} (y : Bool) → x ≡ true → z ≡ x → z ≡ x || y
-or_then y h e = e ∙ rw h
+-- a letter is one of a word's
+pub letter_word : (b : ℕ) → is_letter b ≡ true → is_word b ≡ true
+unfolding is_word
+letter_word b h = rw h
 
-pub or_else : {x y z : Bool} → x ≡ false → z ≡ y → z ≡ x || y
-or_else h e = e ∙ rw h
+-- by its place r in the alphabet
+pub letter_by : (b r : ℕ) → b < 2 ^ 8 → r < 2 ^ 8 → (r + 0x41) % 2 ^ 8 ≡ b - b / 32 % 2 * 32 → nat_lt r 26 ≡ is_letter b
+letter_by b r l m e = go (nat_le 0x41 b) (nat_le b 0x5A) (nat_le 0x61 b) (nat_le b 0x7A) refl refl refl refl
+  where
+    go : (t u v w : Bool) → nat_le 0x41 b ≡ t → nat_le b 0x5A ≡ u → nat_le 0x61 b ≡ v → nat_le b 0x7A ≡ w → nat_lt r 26 ≡ (t && u) || (v && w)
+    go true true v w a c d f = lt-ltb r 26 (omega (arith, e, leb-true 0x41 b a, leb-true b 0x5A c))
+    go true false true true a c d f = lt-ltb r 26 (omega (arith, e, leb-true 0x61 b d, leb-true b 0x7A f))
+    go true false true false a c d f = le-ltb r 26 (omega (arith, e, leb-false b 0x7A f))
+    go true false false w a c d f = le-ltb r 26 (omega (arith, e, leb-false b 0x5A c, leb-false 0x61 b d))
+    go false u true w a c d f = absurd (omega (arith, leb-false 0x41 b a, leb-true 0x61 b d))
+    go false u false w a c d f = le-ltb r 26 (omega (arith, e, leb-false 0x41 b a))
 
 -- a word's bytes: three of them stand in a row
 three : (b : ℕ) → within 0x3C 0x3E b ≡ (b == 0x3C) || b == 0x3D || b == 0x3E
@@ -44,66 +53,12 @@ word_is b =
     ap (λ t. x || t || b == 0x40 || b == 0x7E) (three b)
     ∙ ap (λ t. t || b == 0x40 || b == 0x7E) (sym (or_assoc x (b == 0x3C || b == 0x3D) (b == 0x3E)) ∙ ap (λ t. t || b == 0x3E) (sym (or_assoc x (b == 0x3C) (b == 0x3D))))
 
--- a command's number
-pub command_is : (b : ℕ) → b < last_command + 1 → nat_le b last_command ≡ true
-command_is b h = le-leb b last_command (omega arith)
-
--- by its place in the alphabet
-pub letter_is : (b r : ℕ) → (r + 0x41) % 2 ^ 8 ≡ b - b / 32 % 2 * 32 → r < 26 → is_letter b ≡ true
-letter_is b r e h = go (nat_le b 0x5A) refl
+-- by the greatest of a number for each, which is below 26 just for a byte of the class: one byte more
+pub numbered_more : (p : ℕ → Bool) (m c i : ℕ) (xs : List ℕ) → i < length xs → nat_lt c 26 ≡ p (get_or xs i 0) → nat_lt m 26 ≡ list_all p (take i xs) →
+    nat_lt (max m c) 26 ≡ list_all p (take (i + 1) xs)
+numbered_more p m c i xs l e h = rw (list_all_more p xs i 0 l, ← h, ← e) (go (nat_lt m 26) (nat_lt c 26) refl refl)
   where
-    go : (t : Bool) → nat_le b 0x5A ≡ t → (nat_le 0x41 b && t) || within 0x61 0x7A b ≡ true
-    go true t = rw (le-leb 0x41 b (omega (arith, e)))
-    go false t =
-        let n = leb-false b 0x5A t in
-        let lo = le-leb 0x61 b (omega (arith, e, n)) in
-        let hi = le-leb b 0x7A (omega (arith, e, n)) in
-        rw (and-false (nat_le 0x41 b), lo, hi)
-
--- a letter is one of a word's
-pub letter_word : (b : ℕ) → passes Asked.Letter b ≡ true → passes Asked.Word b ≡ true
-unfolding passes is_word
-letter_word b h = rw h
-
--- bytes in a row -------------------------------------------------------------------------------------------------------------------------------------
-
-module _ (p : ℕ → Bool) where
-  all_of_lem : (xs : List ℕ) → ((i : ℕ) → i < length xs → p (byte_at xs i) ≡ true) → all_of p xs ≡ true
-  unfolding all_of
-  all_of_lem [] h = refl
-  all_of_lem (x ∷ xs) h = and_of (h 0 (omega arith)) (all_of_lem xs (λ i k. h (suc i) (omega arith)))
-
-  all_at : (xs : List ℕ) → all_of p xs ≡ true → (i : ℕ) → i < length xs → p (byte_at xs i) ≡ true
-  unfolding all_of
-  all_at [] h i k = absurd (omega arith)
-  all_at (x ∷ xs) h zero k = (and_both (p x) (all_of p xs) h).0
-  all_at (x ∷ xs) h (suc i) k = all_at xs (and_both (p x) (all_of p xs) h).1 i (omega arith)
-
-  module _ (s : List ℕ) (from to : ℕ) (inside : to ≤ length s) where
-    part_at : (i : ℕ) → i < to - from → byte_at (part_of s from to) i ≡ byte_at s (from + i)
-    part_at i h = get_or-take (to - from) (drop from s) i 0 h ∙ get_or-drop from s i 0
-
-    pub all_part : ((i : ℕ) → from ≤ i → i < to → p (byte_at s i) ≡ true) → all_of p (part_of s from to) ≡ true
-    all_part h =
-        all_of_lem (part_of s from to) (λ i k.
-        let l : i < to - from = omega (arith, part_length s from to inside) in
-        rw (part_at i l) (h (from + i) (omega arith) (omega arith)))
-
-    pub all_not : (i : ℕ) → from ≤ i → i < to → p (byte_at s i) ≡ false → all_of p (part_of s from to) ≡ false
-    all_not i h k e = go (all_of p (part_of s from to)) refl
-      where
-        go : (t : Bool) → all_of p (part_of s from to) ≡ t → t ≡ false
-        go false t = refl
-        go true t =
-            let q : from + (i - from) ≡ i = omega arith in
-            let l : p (byte_at (part_of s from to) (i - from)) ≡ true = all_at (part_of s from to) t (i - from) (omega (arith, part_length s from to inside)) in
-            absurd (false≢true (sym e ∙ ap (λ (n : ℕ). p (byte_at s n)) (sym q) ∙ ap p (sym (part_at (i - from) (omega arith))) ∙ l))
-
-  -- one place more
-  pub all_next : (s : List ℕ) (from to : ℕ) → ((i : ℕ) → from ≤ i → i < to → p (byte_at s i) ≡ true) → p (byte_at s to) ≡ true →
-      (i : ℕ) → from ≤ i → i < to + 1 → p (byte_at s i) ≡ true
-  all_next s from to h e i k l = go (nat_lt i to) refl
-    where
-      go : (t : Bool) → nat_lt i to ≡ t → p (byte_at s i) ≡ true
-      go true t = h i k (ltb-true i to t)
-      go false t = let q : i ≡ to = omega (arith, ltb-false i to t) in ap (λ (n : ℕ). p (byte_at s n)) q ∙ e
+    go : (t u : Bool) → nat_lt m 26 ≡ t → nat_lt c 26 ≡ u → nat_lt (max m c) 26 ≡ t && u
+    go true true a b = lt-ltb (max m c) 26 (omega (arith, ltb-true m 26 a, ltb-true c 26 b))
+    go true false a b = le-ltb (max m c) 26 (omega (arith, ltb-false c 26 b))
+    go false u a b = le-ltb (max m c) 26 (omega (arith, ltb-false m 26 a))

@@ -1,6 +1,6 @@
 -- Words as numbers, two words compared by parts, and a word looked for among the rows of a table.
 -- Assumes nothing.
-use Rattle.std.specs.Prelude.{◌≡◌, ℕ, zero, suc, ◌+◌, ◌-◌, ◌*◌, ◌%◌, ◌^◌, ◌<◌, ◌≤◌, Bool, true, false, List, [], ◌∷◌, ◌++◌, length, take, drop, ◌==◌, ◌≢◌, slice_index, refl}
+use Rattle.std.specs.Prelude.{◌≡◌, ℕ, zero, suc, ◌+◌, ◌-◌, ◌*◌, ◌%◌, ◌^◌, ◌<◌, ◌≤◌, Bool, true, false, List, [], ◌∷◌, ◌++◌, length, take, drop, ◌==◌, ◌≢◌, slice_index, refl, Some, None}
 use Rattle.std.proofs.Math.Path.{sym, ap}
 use Rattle.std.proofs.Common.{◌∙◌, append_assoc, mul-suc, suc-mul, mul-lt-mul_of_pos_right, mod-eq_of_lt, length-take, length-drop, drop_of_length-le, pow-add, pow_pos, length-take-le, get_or-take, get_or-drop, ext_get_or, eqb-true}
 use native.Mathlib.Omega.{arith}
@@ -13,7 +13,6 @@ use Rattle.scan.specs.Number.{number_of}
 use Rattle.scan.specs.PartLaws.{part_length, part_rest, part_part}
 use Rattle.scan.specs.RunLaws.{drop_step}
 use Rattle.words.specs.Words.{Row, same, lookup_in}
-use Rattle.words.specs.declared.words.Named.{Named}
 use Rattle.words.specs.LookupLaws.{same_eq, same_refl, lookup_here, lookup_past}
 use Rattle.fields.specs.Field.{Bytes}
 use Rattle.tables.specs.Table.{count_of, repeated, lengths_from, sum, cut, commands_at, words_at, table_end, framed, table}
@@ -209,27 +208,27 @@ seek_there (suc c) w ws h = go (same w (take (length w) ws)) refl (seek_there c 
 
 -- a word among rows -----------------------------------------------------------------------------------------------------------------------------------
 
-look_empty : (w : List ℕ) → lookup_in [] w ≡ Named.Unknown
+look_empty : (w : List ℕ) → lookup_in [] w ≡ None
 unfolding lookup_in
 look_empty w = refl
 
 -- rows without the word are passed
-look_append : (xs ys : List Row) (w : List ℕ) → lookup_in xs w ≡ Named.Unknown → lookup_in (xs ++ ys) w ≡ lookup_in ys w
+look_append : (xs ys : List Row) (w : List ℕ) → lookup_in xs w ≡ None → lookup_in (xs ++ ys) w ≡ lookup_in ys w
 look_append [] ys w h = refl
 look_append (x ∷ xs) ys w h = go (same w x.word) refl (look_append xs ys w)
   where
-    go : (t : Bool) → same w x.word ≡ t → (lookup_in xs w ≡ Named.Unknown → lookup_in (xs ++ ys) w ≡ lookup_in ys w) → lookup_in (x ∷ (xs ++ ys)) w ≡ lookup_in ys w
+    go : (t : Bool) → same w x.word ≡ t → (lookup_in xs w ≡ None → lookup_in (xs ++ ys) w ≡ lookup_in ys w) → lookup_in (x ∷ (xs ++ ys)) w ≡ lookup_in ys w
     go true e again = let z : ◌≡◌ {A = ℕ} 0 1 = cc (lookup_here x xs w e) in absurd (omega arith)
     go false e again = lookup_past x (xs ++ ys) w e ∙ again (sym (lookup_past x xs w e) ∙ h)
 
 -- none of rows whose words are of other lengths
-look_absent : (ls os ws w : List ℕ) → count_of (length w) ls ≡ 0 → sum ls ≤ length ws → lookup_in (cut ls os ws) w ≡ Named.Unknown
+look_absent : (ls os ws w : List ℕ) → count_of (length w) ls ≡ 0 → sum ls ≤ length ws → lookup_in (cut ls os ws) w ≡ None
 unfolding cut count_of sum
 look_absent [] os ws w c h = look_empty w
 look_absent (l ∷ ls) os ws w c h = go (l == length w) refl (λ n. look_absent ls (drop 1 os) (drop l ws) w n (omega (arith, length-drop l ws)))
   where
-    go : (t : Bool) → (l == length w) ≡ t → (count_of (length w) ls ≡ 0 → lookup_in (cut ls (drop 1 os) (drop l ws)) w ≡ Named.Unknown) →
-        lookup_in (cut (l ∷ ls) os ws) w ≡ Named.Unknown
+    go : (t : Bool) → (l == length w) ≡ t → (count_of (length w) ls ≡ 0 → lookup_in (cut ls (drop 1 os) (drop l ws)) w ≡ None) →
+        lookup_in (cut (l ∷ ls) os ws) w ≡ None
     go true e again = let n : 1 + count_of (length w) ls ≡ 0 = rw e at c in absurd (omega arith)
     go false e again =
         let n : 0 + count_of (length w) ls ≡ 0 = rw e at c in
@@ -238,15 +237,15 @@ look_absent (l ∷ ls) os ws w c h = go (l == length w) refl (λ n. look_absent 
         ∙ again (omega arith)
 
 -- nor of those of its length before the first that has it
-look_before : (j c : ℕ) (os ws w : List ℕ) → j ≤ seek c w ws → lookup_in (cut (repeated j (length w)) os ws) w ≡ Named.Unknown
+look_before : (j c : ℕ) (os ws w : List ℕ) → j ≤ seek c w ws → lookup_in (cut (repeated j (length w)) os ws) w ≡ None
 unfolding cut repeated
 look_before zero c os ws w h = look_empty w
 look_before (suc j) zero os ws w h = absurd (omega (arith, seek_none 0 w ws refl))
 look_before (suc j) (suc c) os ws w h = go (same w (take (length w) ws)) refl (look_before j c (drop 1 os) (drop (length w) ws) w)
   where
     go : (t : Bool) → same w (take (length w) ws) ≡ t →
-        (j ≤ seek c w (drop (length w) ws) → lookup_in (cut (repeated j (length w)) (drop 1 os) (drop (length w) ws)) w ≡ Named.Unknown) →
-        lookup_in (cut (repeated (suc j) (length w)) os ws) w ≡ Named.Unknown
+        (j ≤ seek c w (drop (length w) ws) → lookup_in (cut (repeated j (length w)) (drop 1 os) (drop (length w) ws)) w ≡ None) →
+        lookup_in (cut (repeated (suc j) (length w)) os ws) w ≡ None
     go true e again = absurd (omega (arith, seek_yes c w ws e))
     go false e again = lookup_past _ _ w e ∙ again (omega (arith, seek_no c w ws e))
 
@@ -258,7 +257,7 @@ count_before m k (c ∷ cs) h = count_other m k c (lengths_from (suc k) cs) (λ 
 -- where a word stands among rows: those before it do not have it
 pub record Standing (ls ws w before behind : List ℕ) : Type 0 where
   pub lengths : ls ≡ before ++ length w ∷ behind
-  pub none : (os : List ℕ) → lookup_in (cut before os ws) w ≡ Named.Unknown
+  pub none : (os : List ℕ) → lookup_in (cut before os ws) w ≡ None
   pub there : same w (take (length w) (drop (sum before) ws)) ≡ true
 
 -- its row
@@ -278,7 +277,7 @@ module _ {ls ws w before behind : List ℕ} (s : Standing ls ws w before behind)
       ∙ ap (λ v. cut before os ws ++ row_at before os ws w ∷ cut behind v (drop (length w) (drop (sum before) ws))) (drop-drop 1 n os)
       ∙ ap (λ v. cut before os ws ++ row_at before os ws w ∷ cut behind (drop (n + 1) os) v) (drop-drop (length w) (sum before) ws)
 
-  pub standing_look : lookup_in (cut ls os ws) w ≡ Named.Command (slice_index os (length before))
+  pub standing_look : lookup_in (cut ls os ws) w ≡ Some (slice_index os (length before))
   standing_look =
       let rest = cut behind (drop (length before + 1) os) (drop (sum before + length w) ws) in
       ap (λ rs. lookup_in rs w) standing_rows
@@ -297,7 +296,7 @@ module _ (xs ys ws w : List ℕ) (c : ℕ) (nx : count_of (length w) xs ≡ 0) (
   sums = sum_three xs ys c (length w)
 
   -- none has it
-  look_missing : (os : List ℕ) → place ≡ c → lookup_in (cut (xs ++ (repeated c (length w) ++ ys)) os ws) w ≡ Named.Unknown
+  look_missing : (os : List ℕ) → place ≡ c → lookup_in (cut (xs ++ (repeated c (length w) ++ ys)) os ws) w ≡ None
   look_missing os h =
       let g = repeated c (length w) in
       let os1 = drop (length xs) os in
@@ -354,26 +353,26 @@ module _ (at most : ℕ) (b w : List ℕ) where
   words_room : Framed at most b → 0 < byte_at b at → sum (lengths_at b at 1) ≤ length (drop (words_at at most) b)
   words_room f k = omega (arith, lengths_fit at most b f k, length-drop (words_at at most) b)
 
-  pub table_unframed : framed at most b ≡ false → Named.Unknown ≡ lookup_in ((table at most).read b) w
+  pub table_unframed : framed at most b ≡ false → None ≡ lookup_in ((table at most).read b) w
   table_unframed h = sym (ap (λ rs. lookup_in rs w) (rows_unframed at most b h) ∙ look_empty w)
 
-  pub table_empty : byte_at b at ≡ 0 → Named.Unknown ≡ lookup_in ((table at most).read b) w
+  pub table_empty : byte_at b at ≡ 0 → None ≡ lookup_in ((table at most).read b) w
   table_empty h = sym (ap (λ rs. lookup_in rs w) (rows_empty at most b h) ∙ look_empty w)
 
-  table_absent : count_of (length w) (lengths_at b at 1) ≡ 0 → Named.Unknown ≡ lookup_in ((table at most).read b) w
+  table_absent : count_of (length w) (lengths_at b at 1) ≡ 0 → None ≡ lookup_in ((table at most).read b) w
   table_absent n = go (framed at most b) (dec_lt 0 (byte_at b at)) refl
     where
-      go : (t : Bool) → Dec (0 < byte_at b at) → framed at most b ≡ t → Named.Unknown ≡ lookup_in ((table at most).read b) w
+      go : (t : Bool) → Dec (0 < byte_at b at) → framed at most b ≡ t → None ≡ lookup_in ((table at most).read b) w
       go false d h = table_unframed h
       go true (no k) h = table_empty (omega arith)
       go true (yes k) h =
           sym (ap (λ rs. lookup_in rs w) (rows_are at most b h k)
           ∙ look_absent (lengths_at b at 1) (drop (commands_at at) b) (drop (words_at at most) b) w n (words_room (framed_told at most b h) k))
 
-  pub table_short : length w < 1 → Named.Unknown ≡ lookup_in ((table at most).read b) w
+  pub table_short : length w < 1 → None ≡ lookup_in ((table at most).read b) w
   table_short h = table_absent (count_later (length w) 1 (part_of b (at + 1) (commands_at at)) h)
 
-  pub table_long : word_limit < length w → Named.Unknown ≡ lookup_in ((table at most).read b) w
+  pub table_long : word_limit < length w → None ≡ lookup_in ((table at most).read b) w
   table_long h =
       let l : length (part_of b (at + 1) (commands_at at)) ≤ word_limit = omega (arith, length-take (commands_at at - (at + 1)) (drop (at + 1) b)) in
       table_absent (count_before (length w) 1 (part_of b (at + 1) (commands_at at)) (omega arith))
@@ -395,7 +394,7 @@ module _ (at most : ℕ) (b w : List ℕ) (one : 1 ≤ length w) (short : length
   none_behind : count_of (length w) (lengths_at b at (length w + 1)) ≡ 0
   none_behind = count_later (length w) (length w + 1) (part_of b (at + (length w + 1)) (commands_at at)) (omega arith)
 
-  pub table_none : count ≡ 0 → Named.Unknown ≡ lookup_in ((table at most).read b) w
+  pub table_none : count ≡ 0 → None ≡ lookup_in ((table at most).read b) w
   unfolding repeated
   table_none z =
       let xs = lengths_from 1 before in
@@ -419,7 +418,7 @@ module _ (at most : ℕ) (b w : List ℕ) (one : 1 ≤ length w) (short : length
       found_is : seek count w (drop (sum (lengths_from 1 before)) (drop (words_at at most) b)) ≡ found
       found_is = ap (seek count w) (drop-drop (sum (lengths_from 1 before)) (words_at at most) b ∙ ap (λ (n : ℕ). drop n b) (sym e))
 
-      pub table_missing : found ≡ count → Named.Unknown ≡ lookup_in ((table at most).read b) w
+      pub table_missing : found ≡ count → None ≡ lookup_in ((table at most).read b) w
       table_missing n =
           let os = drop (commands_at at) b in
           let ws = drop (words_at at most) b in

@@ -1,6 +1,6 @@
 -- The order of a table's words: of one and the next, of those of one length, and of all lengths.
 -- Assumes nothing.
-use Rattle.std.specs.Prelude.{◌≡◌, ℕ, zero, suc, ◌+◌, ◌-◌, ◌*◌, ◌<◌, ◌≤◌, Bool, true, false, cond, ◌&&◌, List, [], ◌∷◌, ◌++◌, length, take, drop, ◌≢◌, nat_le, nat_lt}
+use Rattle.std.specs.Prelude.{◌≡◌, ℕ, zero, suc, ◌+◌, ◌-◌, ◌*◌, ◌<◌, ◌≤◌, Bool, true, false, cond, ◌&&◌, List, [], ◌∷◌, ◌++◌, length, take, drop, ◌≢◌, nat_le, nat_lt, Some, None}
 use Rattle.std.proofs.Math.Path.{refl, sym, ap}
 use Rattle.std.proofs.Common.{◌∙◌, zero-mul, arith, length-append, length-drop, drop-drop, length-take-le, lt-ltb, le-ltb, leb-true, leb-false}
 use Rattle.std.proofs.Math.Bool.{and_assoc}
@@ -237,12 +237,12 @@ ordered_start b at most q f w e = record {
 }
 
 module _ {b : List ℕ} {at most q m left : ℕ} (o : Ordered b at most q m left) where
-  pub ordered_end : left ≡ 0 → q ≡ cond (in_order [] (lengths_at b at 1) (drop (words_at at most) b)) (words_at at most + sum (lengths_at b at 1)) 0
+  pub ordered_end : left ≡ 0 → Some q ≡ cond (in_order [] (lengths_at b at 1) (drop (words_at at most) b)) (Some (words_at at most + sum (lengths_at b at 1))) None
   unfolding in_order sum
   ordered_end h =
       let n : lengths_at b at m ≡ [] = sym (empty (lengths_at b at m) (sym o.rest ∙ h)) in
       let z : sum (lengths_at b at m) ≡ 0 = ap sum n in
-      rw (o.order, n) (omega (arith, o.ends))
+      rw (o.order, n) (ap Some (omega (arith, o.ends)))
 
   module _ (more : 0 < left) where
     pub ordered_short : m ≤ word_limit
@@ -284,7 +284,7 @@ module _ {b : List ℕ} {at most q m left : ℕ} (o : Ordered b at most q m left
         ∙ ap (λ v. in_order [] (repeated c m) (drop q b) && in_order [] ls v) (drop-drop (c * m) q b)
 
     pub ordered_not : in_order [] (repeated (byte_at b (at + m)) m) (drop q b) ≡ false →
-        0 ≡ cond (in_order [] (lengths_at b at 1) (drop (words_at at most) b)) (words_at at most + sum (lengths_at b at 1)) 0
+        None ≡ cond (in_order [] (lengths_at b at 1) (drop (words_at at most) b)) (Some (words_at at most + sum (lengths_at b at 1))) None
     ordered_not h = rw (order_here, h)
 
     pub ordered_next : in_order [] (repeated (byte_at b (at + m)) m) (drop q b) ≡ true → Ordered b at most (q + byte_at b (at + m) * m) (m + 1) (left - byte_at b (at + m))

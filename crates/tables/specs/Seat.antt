@@ -1,13 +1,11 @@
 -- Where a word stands in a table, as the code finds it: in no row, or in one whose number and place are told.
 -- Assumes nothing.
-use Rattle.std.specs.Prelude.{◌≡◌, ℕ, ◌+◌, ◌-◌, ◌*◌, ◌<◌, ◌≤◌, true, List, ◌++◌, length, drop, ◌≢◌}
+use Rattle.std.specs.Prelude.{◌≡◌, ℕ, ◌+◌, ◌-◌, ◌*◌, ◌<◌, ◌≤◌, true, List, ◌++◌, length, drop, ◌≢◌, Option, Some, None}
 use Rattle.std.proofs.Common.{sym, ◌∙◌, arith, length-append, get_or-drop}
 use Rattle.std.proofs.Math.Path.{ap}
 use Rattle.limits.specs.Limits.{word_limit}
 use Rattle.scan.specs.Scan.{byte_at, part_of}
 use Rattle.words.specs.Words.{lookup_in}
-use Rattle.words.specs.declared.words.Named.{Named}
-use Rattle.tables.specs.declared.find.Seat.{Seat}
 use Rattle.tables.specs.Table.{repeated, lengths_from, sum, commands_at, words_at, table_end, framed, table}
 use Rattle.tables.specs.Walk.{lengths_at, seek}
 use Rattle.tables.specs.PartsLaws.{repeated_length, from_length, sum_append, sum_repeated}
@@ -28,18 +26,9 @@ pub record Seated (at most : ℕ) (b w : List ℕ) (n p : ℕ) : Type 0 where
   pub place : p ≡ words_at at most + sum before
 
 -- what is found
-unfoldable pub Found : ℕ → ℕ → List ℕ → List ℕ → Seat → Type 0
-Found at most b w Seat.Nowhere = Named.Unknown ≡ lookup_in ((table at most).read b) w
-Found at most b w (Seat.Row n p) = Seated at most b w n p
-
-module _ (at most : ℕ) (b w : List ℕ) (r : Seat) (f : Found at most b w r) where
-  pub found_nowhere : r ≡ Seat.Nowhere → Named.Unknown ≡ lookup_in ((table at most).read b) w
-  unfolding Found
-  found_nowhere e = rw e at f
-
-  pub found_row : (n p : ℕ) → r ≡ Seat.Row n p → Seated at most b w n p
-  unfolding Found
-  found_row n p e = rw e at f
+unfoldable pub Found : ℕ → ℕ → List ℕ → List ℕ → Option (ℕ × ℕ) → Type 0
+Found at most b w None = None ≡ lookup_in ((table at most).read b) w
+Found at most b w (Some (n, p)) = Seated at most b w n p
 
 -- the word is the j-th of those as long, of which the first stands at p behind so many rows
 module _ (at most : ℕ) (b w : List ℕ) (f : framed at most b ≡ true) (k : 0 < byte_at b at) (one : 1 ≤ length w) (short : length w ≤ word_limit) where
@@ -86,8 +75,8 @@ module _ {at most : ℕ} {b w : List ℕ} {n p : ℕ} (s : Seated at most b w n 
   pub seated_last : words_at at most + sum (lengths_at b at 1) ≤ table_end at most
   seated_last = let f = framed_told at most b s.frame in omega (arith, lengths_sum at most b f s.some, f.few)
 
-  pub seated_look : (i : ℕ) → i ≡ commands_at at + n → Named.Command (byte_at b i) ≡ lookup_in ((table at most).read b) w
+  pub seated_look : (i : ℕ) → i ≡ commands_at at + n → Some (byte_at b i) ≡ lookup_in ((table at most).read b) w
   seated_look i e =
       let j : i ≡ commands_at at + length s.before = omega (arith, s.row) in
-      ap Named.Command (ap (byte_at b) j ∙ sym (get_or-drop (commands_at at) b (length s.before) 0))
+      ap Some (ap (byte_at b) j ∙ sym (get_or-drop (commands_at at) b (length s.before) 0))
       ∙ sym (ap (λ rs. lookup_in rs w) (rows_are at most b s.frame s.some) ∙ standing_look s.standing (drop (commands_at at) b))

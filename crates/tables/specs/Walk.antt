@@ -15,11 +15,6 @@ unfoldable pub in_order : List ℕ → List ℕ → List ℕ → Bool
 in_order v [] ws = true
 in_order v (l ∷ ls) ws = is_after v (take l ws) && in_order (take l ws) ls (drop l ws)
 
--- a test holds of each byte
-unfoldable pub all_of : (ℕ → Bool) → List ℕ → Bool
-all_of p [] = true
-all_of p (x ∷ xs) = p x && all_of p xs
-
 -- among c words as long as w at the front of ws: the first that is w, or c
 unfoldable pub seek : ℕ → List ℕ → List ℕ → ℕ
 seek zero w ws = 0

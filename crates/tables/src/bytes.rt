@@ -1,134 +1,98 @@
-// Whether bytes in a row are all of one kind: many are looked at together.
-ghost use Rattle.std.specs.Prelude.{◌≡◌, ℕ, ◌+◌, ◌<◌, ◌≤◌, true, length};
-ghost use Rattle.scan.specs.Scan.{byte_at, part_of};
-ghost use Rattle.tables.specs.declared.bytes.Asked.{Asked};
-ghost use Rattle.tables.specs.Kinds.{passes, small_of};
-ghost use Rattle.tables.specs.Walk.{all_of};
+// Whether bytes in a row are all of one class.
+ghost use Rattle.std.specs.Prelude.{◌≡◌, nat_lt};
+ghost use Rattle.std.specs.List.{list_all};
+ghost use Rattle.scan.specs.Bytes.{is_letter, is_word};
+ghost use Rattle.tables.specs.Kinds.{is_command};
 
 use limits::LAST_COMMAND;
 use scan::byte::within;
+use scan::classes::Class;
 
-// What each byte is to be: a command's number, a letter, or a word's byte.
-#[derive(Clone, Copy)]
-pub enum Asked {
-    Command,
-    Letter,
-    Word,
-}
+// A command's number.
+struct Command;
 
-fn is_letter(b: u8) -> bool
-    ensures { result ≡ passes Asked.Letter b }
-{
-    within(0x41, 0x5A, b) || within(0x61, 0x7A, b)
-}
+impl Class for Command {
+    ghost rule = { is_command };
 
-fn is_word(b: u8) -> bool
-    ensures { result ≡ passes Asked.Word b }
-{
-    is_letter(b)
-        || b == 0x23
-        || b == 0x26
-        || b == 0x2A
-        || within(0x3C, 0x3E, b)
-        || b == 0x40
-        || b == 0x7E
-}
-
-// Whether a byte is what is asked.
-fn is_asked(k: Asked, b: u8) -> bool
-    ensures { result ≡ passes k b }
-{
-    match k {
-        Asked::Command => b <= LAST_COMMAND,
-        Asked::Letter => is_letter(b),
-        Asked::Word => is_word(b),
+    #[tactic(auto, unfolding(crate::specs::Kinds::is_command))]
+    fn has(b: u8) -> bool {
+        b <= LAST_COMMAND
     }
 }
 
-// A letter's place in the alphabet, capital or not; 26 or more for all other bytes.
-fn letter(b: u8) -> u8
-    ensures { result < 26 → passes Asked.Letter b ≡ true }
-{
-    std::num::wrapping_sub_u8(b - b / 32 % 2 * 32, 0x41)
+// A number that is below this tells that a byte is of the class.
+const BELOW: u8 = 26;
+
+// A class that is told by a number. The greatest of many is found by vector instructions, which a test of many comparisons is not compiled to.
+trait Numbered: Class {
+    fn number(b: u8) -> u8
+        ensures { nat_lt result 26 ≡ Self.Class.rule b };
 }
 
-// 0 for a word's byte, else 1.
-fn odd(b: u8) -> u8
-    ensures { result < 1 → passes Asked.Word b ≡ true }
-{
-    if is_word(b) { 0 } else { 1 }
-}
-
-// A number that is small only where a byte is what is asked.
-fn code(k: Asked, b: u8) -> u8
-    ensures { result < small_of k → passes k b ≡ true }
-{
-    match k {
-        Asked::Command => b,
-        Asked::Letter => letter(b),
-        Asked::Word => odd(b),
-    }
-}
-
-fn larger(x: u8, y: u8) -> u8
-    ensures { (x ≤ result) × (y ≤ result) }
-{
-    if x < y { y } else { x }
-}
-
-// The greatest code of the n bytes from `at` on: a loop that nothing leaves, so that vector instructions do it.
-fn greatest(b: &[u8], at: usize, n: usize, k: Asked) -> u8
-    requires { at + n ≤ length b.now }
-    ensures { result < small_of k → (i : ℕ) → at ≤ i → i < at + n → passes k (byte_at b.now i) ≡ true }
+// Whether all are of the class.
+fn all_numbered<C: Numbered>(s: &[u8]) -> bool
+    ensures { result ≡ list_all C.rule s.now }
 {
     let mut m: u8 = 0;
-    let mut i: usize = 0;
-    while i < n {
-        m = larger(m, code(k, b[at + i]));
-        i += 1;
+    for i in 0..s.len() {
+        m = m.max(C::number(s[i]));
     }
-    m
+    m < BELOW
 }
 
-// Whether the bytes from `from` up to `to` are what is asked: byte by byte.
-fn all(b: &[u8], from: usize, to: usize, k: Asked) -> bool
-    requires from_le_to { from ≤ to }
-    requires to_in_bounds { to ≤ length b.now }
-    ensures { result ≡ all_of (passes k) (part_of b.now from to) }
-{
-    let mut i = from;
-    while i < to {
-        if !is_asked(k, b[i]) {
-            return false;
-        }
-        i += 1;
+// A letter's byte.
+struct Letter;
+
+impl Class for Letter {
+    ghost rule = { is_letter };
+
+    fn has(b: u8) -> bool {
+        within(0x41, 0x5A, b) || within(0x61, 0x7A, b)
     }
-    true
+}
+
+impl Numbered for Letter {
+    // A letter's place in the alphabet, capital or not; 26 or more for all other bytes.
+    #[tactic(auto, using(crate::specs::AllLaws::letter_by))]
+    fn number(b: u8) -> u8 {
+        (b - b / 32 % 2 * 32).wrapping_sub(0x41)
+    }
+}
+
+// A word's byte.
+struct Word;
+
+impl Class for Word {
+    ghost rule = { is_word };
+
+    fn has(b: u8) -> bool {
+        Letter::has(b)
+            || b == 0x23
+            || b == 0x26
+            || b == 0x2A
+            || within(0x3C, 0x3E, b)
+            || b == 0x40
+            || b == 0x7E
+    }
+}
+
+impl Numbered for Word {
+    // 0 for a word's byte.
+    fn number(b: u8) -> u8 {
+        if Word::has(b) { 0 } else { BELOW }
+    }
 }
 
 // Whether they are all commands' numbers.
-pub fn all_commands(b: &[u8], from: usize, to: usize) -> bool
-    requires from_le_to { from ≤ to }
-    requires to_in_bounds { to ≤ length b.now }
-    ensures { result ≡ all_of (passes Asked.Command) (part_of b.now from to) }
+pub fn all_commands(b: &[u8]) -> bool
+    ensures { result ≡ list_all is_command b.now }
 {
-    if greatest(b, from, to - from, Asked::Command) <= LAST_COMMAND {
-        return true;
-    }
-    all(b, from, to, Asked::Command)
+    Command::all(b)
 }
 
 // Whether they are all a word's: letters are told most quickly.
-pub fn all_words(b: &[u8], from: usize, to: usize) -> bool
-    requires from_le_to { from ≤ to }
-    requires to_in_bounds { to ≤ length b.now }
-    ensures { result ≡ all_of (passes Asked.Word) (part_of b.now from to) }
+pub fn all_words(b: &[u8]) -> bool
+    ensures { result ≡ list_all is_word b.now }
 {
-    if greatest(b, from, to - from, Asked::Letter) < 26 {
-        return true;
-    }
-    if greatest(b, from, to - from, Asked::Word) < 1 {
-        return true;
-    }
-    all(b, from, to, Asked::Word)
+    all_numbered::<Letter>(b) || all_numbered::<Word>(b)
 }

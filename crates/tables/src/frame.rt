@@ -1,11 +1,12 @@
 // The frame of a table: how many words there are, and where those of one length begin.
-ghost use Rattle.std.specs.Prelude.{◌≡◌, ◌+◌, ◌-◌, ◌*◌, ◌^◌, ◌<◌, ◌≤◌, true, length};
+ghost use Rattle.std.specs.Prelude.{◌≡◌, ◌+◌, ◌-◌, ◌*◌, ◌<◌, ◌≤◌, true};
 ghost use Rattle.limits.specs.Limits.{word_limit};
 ghost use Rattle.scan.specs.Scan.{byte_at, part_of};
-ghost use Rattle.tables.specs.Table.{commands_at, words_at, table_end, framed as framed_of, lengths_from, sum as sum_of};
+ghost use Rattle.tables.specs.Table.{commands_at, words_at, framed as framed_of, lengths_from, sum as sum_of};
 ghost use Rattle.tables.specs.Walk.{lengths_at};
 ghost use Rattle.tables.specs.declared.frame.Start.{Start};
 
+use super::table::Table;
 use limits::WORD;
 
 // Where the words of one length begin: so many rows come before them, and the first stands at `place`.
@@ -15,64 +16,73 @@ pub struct Start {
     pub place: usize,
 }
 
-// The sum of the counts by length.
-fn sum(b: &[u8], at: usize) -> usize
-    requires { commands_at at ≤ length b.now }
-    ensures value { result ≡ sum_of (part_of b.now (at + 1) (commands_at at)) }
-{
-    let mut n: usize = 0;
-    let mut m: usize = 1;
-    while m <= WORD {
-        n = n + b[at + m] as usize;
-        m += 1;
+impl Table<'_> {
+    // How many words there are.
+    pub fn count(&self) -> usize
+        ensures value { result ≡ byte_at self.now.b.now self.now.at }
+        ensures bound { result < 256 }
+    {
+        self.b[self.at] as usize
     }
-    n
-}
 
-// Whether the table at `at` with room for `most` words is all there, and has as many words as its counts say.
-pub fn framed(b: &[u8], at: usize, most: usize) -> bool
-    requires { table_end at most < 2 ^ 64 }
-    ensures { result ≡ framed_of at most b.now }
-{
-    if b.len() < at + 1 + WORD + most + WORD * most {
-        return false;
+    // How many words of m bytes there are.
+    pub fn count_of(&self, m: usize) -> usize
+        requires { m ≤ word_limit }
+        ensures value { result ≡ byte_at self.now.b.now (self.now.at + m) }
+        ensures bound { result < 256 }
+    {
+        self.b[self.at + m] as usize
     }
-    let n = b[at] as usize;
-    if most < n {
-        return false;
-    }
-    if n == 0 {
-        return true;
-    }
-    sum(b, at) == n
-}
 
-// Where the words of m bytes begin.
-pub fn start_of(b: &[u8], at: usize, most: usize, m: usize) -> Start
-    requires most_in_bounds { table_end at most ≤ length b.now }
-    requires le_m { 1 ≤ m }
-    requires m_le_word_limit { m ≤ word_limit }
-    ensures rows { result.rows ≡ sum_of (part_of b.now (at + 1) (at + m)) }
-    ensures place { result.place ≡ commands_at at + most + sum_of (lengths_from 1 (part_of b.now (at + 1) (at + m))) }
-{
-    let mut k: usize = 1;
-    let mut n: usize = 0;
-    let mut p = at + 1 + WORD + most;
-    while k < m {
-        let c = b[at + k] as usize;
-        n = n + c;
-        p = p + c * k;
-        k += 1;
+    // The sum of the counts by length.
+    fn sum(&self) -> usize
+        ensures value { result ≡ sum_of (part_of self.now.b.now (self.now.at + 1) (commands_at self.now.at)) }
+    {
+        let mut n: usize = 0;
+        for m in 1..WORD + 1 {
+            n += self.count_of(m);
+        }
+        n
     }
-    Start { rows: n, place: p }
-}
 
-// Where the words end.
-pub fn end_of(b: &[u8], at: usize, most: usize) -> usize
-    requires b_value { framed_of at most b.now ≡ true }
-    requires at_nonzero { 0 < byte_at b.now at }
-    ensures { result ≡ words_at at most + sum_of (lengths_at b.now at 1) }
-{
-    let s = start_of(b, at, most, WORD);
-    s.place + b[at + WORD] as usize * WORD
+    // Whether there are as many words as the counts say.
+    pub fn framed(&self) -> bool
+        ensures { result ≡ framed_of self.now.at self.now.most self.now.b.now }
+    {
+        let n = self.count();
+        if self.most < n {
+            return false;
+        }
+        if n == 0 {
+            return true;
+        }
+        self.sum() == n
+    }
+
+    // Where the words of m bytes begin.
+    pub fn start_of(&self, m: usize) -> Start
+        requires le_m { 1 ≤ m }
+        requires m_le_word_limit { m ≤ word_limit }
+        ensures rows { result.rows ≡ sum_of (part_of self.now.b.now (self.now.at + 1) (self.now.at + m)) }
+        ensures place { result.place ≡ commands_at self.now.at + self.now.most + sum_of (lengths_from 1 (part_of self.now.b.now (self.now.at + 1) (self.now.at + m))) }
+    {
+        let mut n: usize = 0;
+        let mut p = self.at + 1 + WORD + self.most;
+        for k in 1..m {
+            let c = self.count_of(k);
+            n += c;
+            p += c * k;
+        }
+        Start { rows: n, place: p }
+    }
+
+    // Where the words end.
+    pub fn end(&self) -> usize
+        requires b_value { framed_of self.now.at self.now.most self.now.b.now ≡ true }
+        requires at_nonzero { 0 < byte_at self.now.b.now self.now.at }
+        ensures { result ≡ words_at self.now.at self.now.most + sum_of (lengths_at self.now.b.now self.now.at 1) }
+    {
+        let s = self.start_of(WORD);
+        s.place + self.count_of(WORD) * WORD
+    }
 }

@@ -8,3 +8,5 @@ pub mod good;
 pub mod name;
 mod number;
 mod order;
+pub mod table;
+pub mod word;

@@ -2,7 +2,7 @@
 ghost use Rattle.std.specs.Prelude.{◌≡◌};
 ghost use Rattle.tables.specs.Table.{is_name};
 
-use limits::WORD;
+use super::word::ShortWord;
 use scan::classes::Word;
 use scan::run::run_end;
 
@@ -10,12 +10,8 @@ use scan::run::run_end;
 pub fn is_name(w: &[u8]) -> bool
     ensures { result ≡ is_name w.now }
 {
-    let n = w.len();
-    if n == 0 {
+    let Some(s) = ShortWord::new(w) else {
         return false;
-    }
-    if WORD < n {
-        return false;
-    }
-    run_end::<Word>(w, 0) == n
+    };
+    run_end::<Word>(s.bytes, 0) == s.bytes.len()
 }

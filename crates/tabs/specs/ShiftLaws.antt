@@ -1,15 +1,14 @@
 -- The handlers of tabs: what each answers to a reading does not depend on where the reading stands.
 -- Assumes nothing.
-use Rattle.std.specs.Prelude.{◌≡◌, Bool, List, ℕ, ◌+◌, eqb, length, drop}
+use Rattle.std.specs.Prelude.{◌≡◌, Bool, List, ℕ, ◌+◌, eqb, length, drop, Result, Ok, Err, Some, None}
 use Rattle.std.proofs.Math.Path.{refl}
 use Rattle.std.proofs.Math.Bool.{true, false, cond}
+use Rattle.limits.specs.declared.refusal.Refusal.{Refusal}
 use Rattle.scan.specs.ShiftLaws.{eqb_shift}
-use Rattle.ranges.specs.Range.{whole_range}
+use Rattle.ranges.specs.Range.{whole_range, RangeRead, WholeRead}
 use Rattle.ranges.specs.Shift.{shift_spec, shift_range}
 use Rattle.ranges.specs.declared.range.RangeEndingType.{RangeEndingType}
-use Rattle.ranges.specs.declared.range.RangeRead.{RangeRead}
 use Rattle.ranges.specs.declared.range.RangeSpec.{RangeSpec}
-use Rattle.ranges.specs.declared.range.WholeRead.{WholeRead}
 use Rattle.focus.specs.ShiftLaws.{range_focus_shift}
 use Rattle.reading.specs.Line.{argument_of}
 use Rattle.reading.specs.Shift.{shift_command}
@@ -23,21 +22,21 @@ module _ (k : ℕ) where
   -- the range that the argument is, and the one that is taken
   argued_shift : (w : WholeRead) → argued w ≡ shift_tab k (argued w)
   unfolding argued shift_tab
-  argued_shift (WholeRead.Range g) = refl
-  argued_shift WholeRead.Bad = refl
-  argued_shift WholeRead.TooLarge = refl
+  argued_shift (Ok (Some g)) = refl
+  argued_shift (Ok None) = refl
+  argued_shift (Err why) = refl
 
   tab_range_shift : (g : RangeRead) (a : List ℕ) → tab_range (shift_range k g) a ≡ shift_tab k (tab_range g a)
   unfolding tab_range unargued either shift_range shift_tab
   tab_range_shift g a = go g (eqb (length a) 0)
     where
       go : (g : RangeRead) (b : Bool) → cond b (unargued (shift_range k g)) (either (shift_range k g) (whole_range a)) ≡ shift_tab k (cond b (unargued g) (either g (whole_range a)))
-      go RangeRead.Absent true = refl
-      go RangeRead.Absent false = argued_shift (whole_range a)
-      go (RangeRead.Found g j) true = refl
-      go (RangeRead.Found g j) false = refl
-      go RangeRead.TooLarge true = refl
-      go RangeRead.TooLarge false = refl
+      go (Ok None) true = refl
+      go (Ok None) false = argued_shift (whole_range a)
+      go (Ok (Some (g, j))) true = refl
+      go (Ok (Some (g, j))) false = refl
+      go (Err why) true = refl
+      go (Err why) false = refl
 
   -- digits alone
   back_end_shift : (e : RangeEndingType) (i j : ℕ) → back_end e (k + i) (k + j) ≡ back_end e i j
@@ -56,27 +55,27 @@ module _ (k : ℕ) where
   back_shift (RangeSpec.Single e) = back_end_shift e.atom e.from e.to
   back_shift (RangeSpec.Double l r p) = refl
 
-  prev_shift : (g : TabRange) → prev_by (shift_tab k g) ≡ prev_by g
+  prev_shift : (g : Result TabRange Refusal) → prev_by (shift_tab k g) ≡ prev_by g
   unfolding prev_by shift_tab
-  prev_shift TabRange.Absent = refl
-  prev_shift (TabRange.InLine g) = back_shift g
-  prev_shift (TabRange.InArgument g) = refl
-  prev_shift (TabRange.Refused e) = refl
+  prev_shift (Ok TabRange.Absent) = refl
+  prev_shift (Ok (TabRange.InLine g)) = back_shift g
+  prev_shift (Ok (TabRange.InArgument g)) = refl
+  prev_shift (Err e) = refl
 
   module _ (l : List ℕ) where
     -- the focus by it
-    next_shift : (a : List ℕ) (g : TabRange) → next_by l a (shift_tab k g) ≡ next_by (drop k l) a g
+    next_shift : (a : List ℕ) (g : Result TabRange Refusal) → next_by l a (shift_tab k g) ≡ next_by (drop k l) a g
     unfolding next_by shift_tab
-    next_shift a TabRange.Absent = refl
-    next_shift a (TabRange.InLine g) = range_focus_shift k l g true
-    next_shift a (TabRange.InArgument g) = refl
-    next_shift a (TabRange.Refused e) = refl
+    next_shift a (Ok TabRange.Absent) = refl
+    next_shift a (Ok (TabRange.InLine g)) = range_focus_shift k l g true
+    next_shift a (Ok (TabRange.InArgument g)) = refl
+    next_shift a (Err e) = refl
 
     move_shift : (g : RangeRead) (a : List ℕ) → move_range l (shift_range k g) a ≡ move_range (drop k l) g a
     unfolding move_range shift_range
-    move_shift RangeRead.Absent a = refl
-    move_shift (RangeRead.Found g j) a = range_focus_shift k l g false
-    move_shift RangeRead.TooLarge a = refl
+    move_shift (Ok None) a = refl
+    move_shift (Ok (Some (g, j))) a = range_focus_shift k l g false
+    move_shift (Err why) a = refl
 
     module _ (d : CommandDescription) where
       -- 17

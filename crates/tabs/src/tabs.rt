@@ -17,76 +17,68 @@ pub enum TabRange {
     Absent,
     InLine(RangeSpec),
     InArgument(RangeSpec),
-    Refused(Refusal),
 }
 
-fn unargued(g: RangeRead) -> TabRange
+#[tactic(auto, unfolding(crate::specs::Tabs::unargued))]
+fn unargued(g: RangeRead) -> Result<TabRange, Refusal>
     ensures { result ≡ unargued_of g }
 {
-    match g {
-        RangeRead::Found(x, _) => TabRange::InLine(x),
-        RangeRead::Absent => TabRange::Absent,
-        RangeRead::TooLarge => TabRange::Refused(Refusal::NumberTooLarge),
+    match g? {
+        Some((x, _)) => Ok(TabRange::InLine(x)),
+        None => Ok(TabRange::Absent),
     }
 }
 
-fn argued(w: WholeRead) -> TabRange
+#[tactic(auto, unfolding(crate::specs::Tabs::argued))]
+fn argued(w: WholeRead) -> Result<TabRange, Refusal>
     ensures { result ≡ argued_of w }
 {
-    match w {
-        WholeRead::Range(x) => TabRange::InArgument(x),
-        WholeRead::Bad => TabRange::Refused(Refusal::InvalidArgument),
-        WholeRead::TooLarge => TabRange::Refused(Refusal::NumberTooLarge),
+    match w? {
+        Some(x) => Ok(TabRange::InArgument(x)),
+        None => Err(Refusal::InvalidArgument),
     }
 }
 
-fn tab_range(g: RangeRead, a: &[u8]) -> TabRange
+#[tactic(auto, unfolding(crate::specs::Tabs::tab_range, crate::specs::Tabs::either))]
+fn tab_range(g: RangeRead, a: &[u8]) -> Result<TabRange, Refusal>
     ensures { result ≡ tab_range g a.now }
 {
     if a.len() == 0 {
         return unargued(g);
     }
-    match g {
-        RangeRead::Found(_, _) => TabRange::Refused(Refusal::InvalidArgument),
-        RangeRead::Absent => argued(parse_whole_range(a)),
-        RangeRead::TooLarge => TabRange::Refused(Refusal::NumberTooLarge),
+    match g? {
+        Some(_) => Err(Refusal::InvalidArgument),
+        None => argued(parse_whole_range(a)),
     }
 }
 
+#[tactic(auto, unfolding(crate::specs::Tabs::focusing))]
 fn focused(x: Focused) -> Done
     ensures { result ≡ focusing x }
 {
-    match x {
-        Focused::To(c) => Done::Act(Action::Tab(TabAction::Focus(focus_again(c)))),
-        Focused::Refused(e) => Done::Refused(e),
-    }
+    Ok(Action::Tab(TabAction::Focus(focus_again(x?))))
 }
 
+#[tactic(auto, unfolding(crate::specs::Tabs::moving))]
 fn moved(x: Focused) -> Done
     ensures { result ≡ moving x }
 {
-    match x {
-        Focused::To(c) => Done::Act(Action::Tab(TabAction::Move(focus_again(c)))),
-        Focused::Refused(e) => Done::Refused(e),
-    }
+    Ok(Action::Tab(TabAction::Move(focus_again(x?))))
 }
 
-fn next_by(s: &[u8], a: &[u8], g: TabRange) -> Focused
+#[tactic(auto, unfolding(crate::specs::Tabs::next_by))]
+fn next_by(s: &[u8], a: &[u8], g: Result<TabRange, Refusal>) -> Focused
     ensures { result ≡ next_by s.now a.now g }
 {
-    match g {
-        TabRange::Absent => Focused::To(FocusChange::Direction1D(
-            MoveDir1D::Next,
-            Count::Contextual,
-            true,
-        )),
+    match g? {
+        TabRange::Absent => Ok(FocusChange::Direction1D(MoveDir1D::Next, Count::Contextual, true)),
         TabRange::InLine(x) => range_to_fc(s, x, true),
         TabRange::InArgument(x) => range_to_fc(a, x, true),
-        TabRange::Refused(e) => Focused::Refused(e),
     }
 }
 
 // The `:tabnext` command. Alias: `tabn`. Goes to the next tab, or to the one that its range or argument names.
+#[tactic(auto, unfolding(crate::specs::Tabs::tabnext_of))]
 pub fn vim_cmd_tabnext(s: &[u8], d: CommandDescription) -> Done
     ensures { result ≡ tabnext_of s.now d }
 {
@@ -96,6 +88,7 @@ pub fn vim_cmd_tabnext(s: &[u8], d: CommandDescription) -> Done
 }
 
 // Digits alone go back as many tabs.
+#[tactic(auto, unfolding(crate::specs::Tabs::back_end))]
 fn back_end(e: RangeEnding) -> Focused
     ensures { result ≡ back_end e.atom e.from e.to }
 {
@@ -103,51 +96,41 @@ fn back_end(e: RangeEnding) -> Focused
     let from = e.from;
     let to = e.to;
     match a {
-        RangeEndingType::Absolute(n) => {
-            if from == to {
-                return Focused::To(FocusChange::Direction1D(
-                    MoveDir1D::Previous,
-                    Count::Exact(n),
-                    true,
-                ));
-            }
-            Focused::Refused(Refusal::InvalidRange)
-        }
-        RangeEndingType::Unspecified => Focused::Refused(Refusal::InvalidRange),
-        RangeEndingType::Current => Focused::Refused(Refusal::InvalidRange),
-        RangeEndingType::Last => Focused::Refused(Refusal::InvalidRange),
-        RangeEndingType::All => Focused::Refused(Refusal::InvalidRange),
-        RangeEndingType::Search(_) => Focused::Refused(Refusal::InvalidRange),
-        RangeEndingType::SubPatSearch => Focused::Refused(Refusal::InvalidRange),
-        RangeEndingType::Mark(_) => Focused::Refused(Refusal::InvalidRange),
+        RangeEndingType::Absolute(n) if from == to => Ok(FocusChange::Direction1D(
+            MoveDir1D::Previous,
+            Count::Exact(n),
+            true,
+        )),
+        _ => Err(Refusal::InvalidRange),
     }
 }
 
+#[tactic(auto, unfolding(crate::specs::Tabs::back))]
 fn back(g: RangeSpec) -> Focused
     ensures { result ≡ back_of g }
 {
     match g {
         RangeSpec::Single(e) => back_end(e),
-        RangeSpec::Double(_, _, _) => Focused::Refused(Refusal::InvalidRange),
+        RangeSpec::Double(_, _, _) => Err(Refusal::InvalidRange),
     }
 }
 
-fn prev_by(g: TabRange) -> Focused
+#[tactic(auto, unfolding(crate::specs::Tabs::prev_by))]
+fn prev_by(g: Result<TabRange, Refusal>) -> Focused
     ensures { result ≡ prev_by g }
 {
-    match g {
-        TabRange::Absent => Focused::To(FocusChange::Direction1D(
+    match g? {
+        TabRange::Absent => Ok(FocusChange::Direction1D(
             MoveDir1D::Previous,
             Count::Contextual,
             true,
         )),
-        TabRange::InLine(x) => back(x),
-        TabRange::InArgument(x) => back(x),
-        TabRange::Refused(e) => Focused::Refused(e),
+        TabRange::InLine(x) | TabRange::InArgument(x) => back(x),
     }
 }
 
 // The `:tabprevious` command. Aliases: `tabp`, `tabN`, `tabNext`. Goes back a tab, or as many as its range or argument says.
+#[tactic(auto, unfolding(crate::specs::Tabs::tabprev_of))]
 pub fn vim_cmd_tabprev(s: &[u8], d: CommandDescription) -> Done
     ensures { result ≡ tabprev_of s.now d }
 {
@@ -155,26 +138,26 @@ pub fn vim_cmd_tabprev(s: &[u8], d: CommandDescription) -> Done
     focused(prev_by(tab_range(g, argument(s, d))))
 }
 
+#[tactic(auto, unfolding(crate::specs::Tabs::move_argument))]
 fn move_argument(a: &[u8], w: WholeRead) -> Focused
     ensures { result ≡ move_argument a.now w }
 {
-    match w {
-        WholeRead::Range(x) => range_to_fc(a, x, false),
-        WholeRead::Bad => Focused::Refused(Refusal::ParseFailed),
-        WholeRead::TooLarge => Focused::Refused(Refusal::NumberTooLarge),
+    match w? {
+        Some(x) => range_to_fc(a, x, false),
+        None => Err(Refusal::ParseFailed),
     }
 }
 
 // The range before the word wins, and the argument is then not looked at.
+#[tactic(auto, unfolding(crate::specs::Tabs::move_range))]
 fn move_range(s: &[u8], g: RangeRead, a: &[u8]) -> Focused
     ensures { result ≡ move_range s.now g a.now }
 {
-    match g {
-        RangeRead::Found(x, _) => range_to_fc(s, x, false),
-        RangeRead::TooLarge => Focused::Refused(Refusal::NumberTooLarge),
-        RangeRead::Absent => {
+    match g? {
+        Some((x, _)) => range_to_fc(s, x, false),
+        None => {
             if a.len() == 0 {
-                return Focused::To(FocusChange::End);
+                return Ok(FocusChange::End);
             }
             move_argument(a, parse_whole_range(a))
         }
@@ -182,6 +165,7 @@ fn move_range(s: &[u8], g: RangeRead, a: &[u8]) -> Focused
 }
 
 // The `:tabmove` command. Alias: `tabm`. Moves the tab to the end, or where its range or argument says.
+#[tactic(auto, unfolding(crate::specs::Tabs::tabmove_of))]
 pub fn vim_cmd_tabmove(s: &[u8], d: CommandDescription) -> Done
     ensures { result ≡ tabmove_of s.now d }
 {

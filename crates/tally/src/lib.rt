@@ -1,15 +1,15 @@
 // How many lines there were, and what they came to: a count for each outcome of a line, lent and added to.
-#![tactic(auto)]
+#![tactic(auto, using(texts::specs::WrittenLaws::adding))]
 
 ghost use Rattle.std.specs.Prelude.{◌≡◌, ◌+◌, ◌<◌, length};
 ghost use Rattle.limits.specs.Refusals.{refusals};
-ghost use Rattle.texts.specs.Behind.{Behind};
+ghost use Rattle.texts.specs.Written.{Adds};
 ghost use Rattle.tally.specs.Tally.{counts, added_to, entry_of, outcome_of, with_line, sum_up_to};
 
 use limits::refusal::{LAST_REFUSAL, REFUSALS, Refusal};
 use run::reply::LineReply;
 use scan::part::byte_at;
-use texts::put::{put_byte, put_decimal, put_text};
+use texts::page::Page;
 
 // How many counts there are: one for each refusal, in the order of their numbers, one for numbers that no refusal has, one for lines with an
 // action, and one for lines that give nothing.
@@ -68,95 +68,88 @@ pub fn refused(t: &[u64; COUNTS]) -> u64
     ensures { result ≡ sum_up_to t.now (length refusals + 1) }
 {
     let mut n: u64 = 0;
-    let mut i: usize = 0;
-    while i <= OTHERS {
+    for i in 0..OTHERS + 1 {
         n = added(n, t[i]);
-        i += 1;
     }
     n
 }
 
 // A count and what is counted.
-fn put_count(out: &mut [u8], at: usize, n: u64, what: &[u8]) -> usize
-    ensures { Behind out.old out.new at result }
+fn put_count(page: &mut Page<'_>, n: u64, what: &[u8])
+    ensures { Adds page.old page.new }
 {
-    let i = put_decimal(out, at, n);
-    put_text(out, i, what)
+    page.decimal(n);
+    page.text(what);
 }
 
 // The same, with one of them told by another text.
-fn put_counted(out: &mut [u8], at: usize, n: u64, one: &[u8], many: &[u8]) -> usize
-    ensures { Behind out.old out.new at result }
+fn put_counted(page: &mut Page<'_>, n: u64, one: &[u8], many: &[u8])
+    ensures { Adds page.old page.new }
 {
     if n == 1 {
-        return put_count(out, at, n, one);
+        put_count(page, n, one);
+    } else {
+        put_count(page, n, many);
     }
-    put_count(out, at, n, many)
 }
 
 // How many lines were refused by a number, if any.
-fn put_by(out: &mut [u8], at: usize, n: u64, count: u64) -> usize
-    ensures { Behind out.old out.new at result }
+fn put_by(page: &mut Page<'_>, n: u64, count: u64)
+    ensures { Adds page.old page.new }
 {
-    if count == 0 {
-        return at;
+    if count > 0 {
+        page.text(b", ");
+        put_count(page, count, b" by ");
+        page.decimal(n);
     }
-    let i = put_text(out, at, b", ");
-    let j = put_count(out, i, count, b" by ");
-    put_decimal(out, j, n)
 }
 
 // The same for a number that a refusal may have.
-fn put_by_number(out: &mut [u8], at: usize, n: u64, t: &[u64; COUNTS]) -> usize
-    ensures { Behind out.old out.new at result }
+fn put_by_number(page: &mut Page<'_>, n: u64, t: &[u64; COUNTS])
+    ensures { Adds page.old page.new }
 {
-    match Refusal::try_from(n) {
-        Ok(x) => put_by(out, at, n, t[x.place()]),
-        Err(_) => at,
+    if let Ok(x) = Refusal::try_from(n) {
+        put_by(page, n, t[x.place()]);
     }
 }
 
 // How many lines were refused by numbers that no refusal has, if any.
-fn put_others(out: &mut [u8], at: usize, count: u64) -> usize
-    ensures { Behind out.old out.new at result }
+fn put_others(page: &mut Page<'_>, count: u64)
+    ensures { Adds page.old page.new }
 {
-    if count == 0 {
-        return at;
+    if count > 0 {
+        page.text(b", ");
+        put_count(page, count, b" by a number that no refusal has");
     }
-    let i = put_text(out, at, b", ");
-    put_count(out, i, count, b" by a number that no refusal has")
 }
 
 // The refused lines by number.
-fn put_all_by(out: &mut [u8], at: usize, t: &[u64; COUNTS]) -> usize
-    ensures { Behind out.old out.new at result }
+fn put_all_by(page: &mut Page<'_>, t: &[u64; COUNTS])
+    ensures { Adds page.old page.new }
 {
-    let mut to = at;
-    let mut n: u64 = 0;
-    while n <= LAST_REFUSAL {
-        to = put_by_number(out, to, n, t);
-        n += 1;
+    for n in 0..LAST_REFUSAL + 1 {
+        put_by_number(page, n, t);
     }
-    put_others(out, to, t[OTHERS])
+    put_others(page, t[OTHERS]);
 }
 
 // Lines, actions and those that give nothing.
-fn put_lines(out: &mut [u8], at: usize, actions: u64, nothing: u64, refused: u64) -> usize
-    ensures { Behind out.old out.new at result }
+fn put_lines(page: &mut Page<'_>, actions: u64, nothing: u64, refused: u64)
+    ensures { Adds page.old page.new }
 {
     let lines = added(added(actions, nothing), refused);
-    let i = put_counted(out, at, lines, b" line: ", b" lines: ");
-    let j = put_counted(out, i, actions, b" action, ", b" actions, ");
-    put_count(out, j, nothing, b" nothing, ")
+    put_counted(page, lines, b" line: ", b" lines: ");
+    put_counted(page, actions, b" action, ", b" actions, ");
+    put_count(page, nothing, b" nothing, ");
 }
 
 // The line that sums up.
-pub fn put_tally(out: &mut [u8], at: usize, t: &[u64; COUNTS]) -> usize
-    ensures { Behind out.old out.new at result }
+pub fn put_tally(page: &mut Page<'_>, t: &[u64; COUNTS])
+    ensures { Adds page.old page.new }
 {
     let bad = refused(t);
-    let i = put_lines(out, at, t[ACTIONS], t[NOTHING], bad);
-    let j = put_count(out, i, bad, b" refused");
-    let k = put_all_by(out, j, t);
-    put_byte(out, k, 0x0A)
+    put_lines(page, t[ACTIONS], t[NOTHING], bad);
+    put_count(page, bad, b" refused");
+    put_all_by(page, t);
+    page.byte(b'\n');
 }

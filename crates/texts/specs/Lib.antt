@@ -1,2 +1,2 @@
-pub mod Behind
-pub mod BehindLaws
+pub mod Written
+pub mod WrittenLaws

@@ -1,5 +1,5 @@
 // Text written into a lent buffer.
-#![tactic(auto, using(crate::specs::BehindLaws::behind_then))]
+#![tactic(auto, using(crate::specs::WrittenLaws::adding))]
 
-pub mod put;
+pub mod page;
 pub mod shown;

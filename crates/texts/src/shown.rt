@@ -1,20 +1,10 @@
 // A text shown without quotes, and the line under it that marks a part. What is shown is UTF-8, whatever the text is.
-ghost use Rattle.std.specs.Prelude.{◌≡◌, ◌<◌, ◌≤◌, length, IfSome};
-ghost use Rattle.texts.specs.Behind.{Behind};
+ghost use Rattle.std.specs.Prelude.{◌<◌, ◌≤◌, length, IfSome};
+ghost use Rattle.texts.specs.Written.{Adds};
 
-use super::put::{
-    is_control_end, put_ascii, put_byte, put_control, put_escape, put_repeated, put_text,
-};
+use super::page::{Page, is_control_end};
 use scan::part::byte_at;
 use utf8::utf8::is_utf8;
-
-// One character, or a byte that is part of none, as it is shown: where the text goes on, the place behind what is written, and its columns.
-#[derive(Clone, Copy)]
-struct Piece {
-    next: usize,
-    at: usize,
-    columns: usize,
-}
 
 // How many bytes a character has that starts with this byte from 0x80 on, if one does.
 fn size_by(first: u8) -> usize
@@ -39,85 +29,21 @@ fn character_end(s: &[u8], i: usize) -> Option<usize>
     Some(i + n)
 }
 
-// A byte that is a character, or part of none.
-fn put_alone(out: &mut [u8], at: usize, b: u8) -> usize
-    ensures { Behind out.old out.new at result }
-{
-    if b < 0x80 {
-        return put_ascii(out, at, b);
-    }
-    put_escape(out, at, b"\\x{", b)
-}
-
-// A character of several bytes. Control characters have two, the first 0xC2.
-fn put_character(out: &mut [u8], at: usize, c: &[u8], next: usize) -> Piece
-    ensures behind { Behind out.old out.new at result.at }
-    ensures next_value { result.next ≡ next }
-{
-    let second = byte_at(c, 1);
-    if byte_at(c, 0) == 0xC2 && is_control_end(second) {
-        let to = put_control(out, at, second);
-        return Piece {
-            next,
-            at: to,
-            columns: to - at,
-        };
-    }
-    Piece {
-        next,
-        at: put_text(out, at, c),
-        columns: 1,
-    }
-}
-
-// The character at a position, or its byte if none stands there.
-fn put_one(out: &mut [u8], at: usize, s: &[u8], i: usize) -> Piece
-    requires { i < length s.now }
-    ensures behind { Behind out.old out.new at result.at }
-    ensures i_lt_next { (i < result.next) × (result.next ≤ length s.now) }
-{
-    let Some(end) = character_end(s, i) else {
-        let to = put_alone(out, at, s[i]);
-        return Piece {
-            next: i + 1,
-            at: to,
-            columns: to - at,
-        };
-    };
-    put_character(out, at, &s[i..end], end)
-}
-
 // Whether each byte of a text is a character of one column, shown as it is.
 fn is_plain(s: &[u8]) -> bool {
-    let mut m = true;
-    for i in 0..s.len() {
-        m = m & (0x20 <= s[i]) & (s[i] <= 0x7E);
-    }
-    m
+    s.iter().all(|b| (0x20..=0x7E).contains(b))
 }
 
-// A text without quotes, character by character. The step is a character, so the loop is a `while`.
-fn put_pieces(out: &mut [u8], at: usize, s: &[u8]) -> usize
-    ensures { Behind out.old out.new at result }
-{
-    let mut to = at;
-    let mut i: usize = 0;
-    while i < s.len() {
-        let one = put_one(out, to, s, i);
-        to = one.at;
-        i = one.next;
-    }
-    to
+// A character, or a byte that is part of none: where the text goes on, and how many columns it takes as it is shown.
+#[derive(Clone, Copy)]
+struct Piece {
+    next: usize,
+    columns: usize,
 }
 
-// A text without quotes. Control characters, and bytes that are part of no character, are escaped.
-pub fn put_shown(out: &mut [u8], at: usize, s: &[u8]) -> usize
-    ensures { Behind out.old out.new at result }
-{
-    if is_plain(s) {
-        return put_text(out, at, s);
-    }
-    put_pieces(out, at, s)
+// The columns of a shown text: one for each character, thus for each byte but those that go on with one.
+fn columns_shown(s: &[u8]) -> usize {
+    s.iter().filter(|b| !(0x80..0xC0).contains(*b)).count()
 }
 
 // How the character at a position would be shown.
@@ -126,58 +52,131 @@ fn piece_at(s: &[u8], i: usize) -> Piece
     ensures { (i < result.next) × (result.next ≤ length s.now) }
 {
     let mut text = [0u8; 8];
-    put_one(&mut text, 0, s, i)
+    let mut page = Page::new(&mut text);
+    let next = page.piece(s, i);
+    Piece {
+        next,
+        columns: columns_shown(page.written()),
+    }
 }
 
-// A line under a text: how far it is written, and where its marks begin.
+// The columns before a part of a shown text, and those in it.
 #[derive(Clone, Copy)]
-struct Under {
-    at: usize,
-    marks: usize,
+struct Columns {
+    before: usize,
+    within: usize,
 }
 
-// What stands under one character: spaces before the part, marks in it, nothing behind it.
-fn put_under(out: &mut [u8], line: Under, i: usize, one: Piece, start: usize, stop: usize) -> Under
-    ensures { Behind out.old out.new line.at result.at }
-{
+// With a character at a position: it is before the part, in it, or behind it.
+fn with_piece(c: Columns, i: usize, one: Piece, start: usize, stop: usize) -> Columns {
     if one.next <= start {
-        let to = put_repeated(out, line.at, 0x20, one.columns);
-        return Under { at: to, marks: to };
+        return Columns {
+            before: c.before.saturating_add(one.columns),
+            ..c
+        };
     }
     if stop <= i {
-        return line;
+        return c;
     }
-    Under {
-        at: put_repeated(out, line.at, 0x5E, one.columns),
-        ..line
+    Columns {
+        within: c.within.saturating_add(one.columns),
+        ..c
     }
 }
 
-// The line under a shown text, character by character, which is the step.
-fn put_marks(out: &mut [u8], at: usize, s: &[u8], start: usize, stop: usize) -> usize
-    ensures { Behind out.old out.new at result }
-{
-    let mut line = Under { at, marks: at };
+// The columns of the part from `start` up to `stop`. A character that an end of the part cuts is in it. The step is a character, so the
+// loop is a `while`.
+fn columns_of(s: &[u8], start: usize, stop: usize) -> Columns {
+    let mut c = Columns {
+        before: 0,
+        within: 0,
+    };
     let mut i: usize = 0;
+    // Each piece says where the next one starts.
     while i < s.len() {
         let one = piece_at(s, i);
-        line = put_under(out, line, i, one, start, stop);
+        c = with_piece(c, i, one, start, stop);
         i = one.next;
     }
-    if line.marks < line.at {
-        return line.at;
-    }
-    put_byte(out, line.at, 0x5E)
+    c
 }
 
-// The line under a shown text that marks the part from `start` up to `stop`: a space for each column before it, a mark for each in it. A
-// part without columns has one mark. A character that an end of the part cuts is in it.
-pub fn put_marked(out: &mut [u8], at: usize, s: &[u8], start: usize, stop: usize) -> usize
-    ensures { Behind out.old out.new at result }
-{
-    if start < stop && stop <= s.len() && is_plain(s) {
-        let i = put_repeated(out, at, 0x20, start);
-        return put_repeated(out, i, 0x5E, stop - start);
+impl<'a> Page<'a> {
+    // A byte that is a character, or part of none.
+    fn alone(&mut self, b: u8)
+        ensures { Adds self.old self.new }
+    {
+        if b < 0x80 {
+            self.ascii(b);
+        } else {
+            self.escape(b"\\x{", b);
+        }
     }
-    put_marks(out, at, s, start, stop)
+
+    // A character of several bytes. Control characters have two, the first 0xC2.
+    fn character(&mut self, c: &[u8])
+        ensures { Adds self.old self.new }
+    {
+        let second = byte_at(c, 1);
+        if byte_at(c, 0) == 0xC2 && is_control_end(second) {
+            self.control(second);
+        } else {
+            self.text(c);
+        }
+    }
+
+    // The character at a position, or its byte if none stands there: answers where the text goes on.
+    fn piece(&mut self, s: &[u8], i: usize) -> usize
+        requires { i < length s.now }
+        ensures adds { Adds self.old self.new }
+        ensures next { (i < result) × (result ≤ length s.now) }
+    {
+        match character_end(s, i) {
+            Some(end) => {
+                self.character(&s[i..end]);
+                end
+            }
+            None => {
+                self.alone(s[i]);
+                i + 1
+            }
+        }
+    }
+
+    // A text without quotes, character by character. The step is a character, so the loop is a `while`.
+    fn pieces(&mut self, s: &[u8])
+        ensures { Adds self.old self.new }
+    {
+        let mut i: usize = 0;
+        // As above.
+        while i < s.len() {
+            i = self.piece(s, i);
+        }
+    }
+
+    // A text without quotes. Control characters, and bytes that are part of no character, are escaped.
+    pub fn shown(&mut self, s: &[u8])
+        ensures { Adds self.old self.new }
+    {
+        if is_plain(s) {
+            self.text(s);
+        } else {
+            self.pieces(s);
+        }
+    }
+
+    // The line under a shown text that marks the part from `start` up to `stop`: a space for each column before it, a mark for each in it. A
+    // part without columns has one mark.
+    pub fn marked(&mut self, s: &[u8], start: usize, stop: usize)
+        ensures { Adds self.old self.new }
+    {
+        if start < stop && stop <= s.len() && is_plain(s) {
+            self.repeated(b' ', start);
+            self.repeated(b'^', stop - start);
+            return;
+        }
+        let c = columns_of(s, start, stop);
+        self.repeated(b' ', c.before);
+        self.repeated(b'^', c.within.max(1));
+    }
 }

@@ -9,7 +9,7 @@ ghost use Rattle.commands.specs.Run.{role_named};
 ghost use Rattle.layout.specs.Layout.{session_of, table_of};
 ghost use Rattle.tokens.specs.Through.{is_prefix, is_prefixed, kind_number, told, told_all, token_bytes, told_bytes, before, through, texts_end, line_tokens};
 
-use commands::next::{Role, role_of};
+use commands::next::Role;
 use layout::bytes::put_two;
 use layout::lookup::find_added;
 use scan::classes::Text;
@@ -17,7 +17,6 @@ use scan::part::part;
 use scan::run::run_end;
 use scanner::token::{Lead, Token, TokenKind, lead_of, line_token};
 use spellings::{command_of, spellings};
-use words::words::Named;
 
 // The number of a word that names no prefix, and of one that does.
 pub const WORD: u8 = 3;
@@ -29,17 +28,8 @@ fn kind_number(w: u8, kind: TokenKind) -> u8
     ensures { result ≡ kind_number w kind }
 {
     match kind {
-        TokenKind::Space => 0,
-        TokenKind::Colon => 1,
-        TokenKind::Range => 2,
         TokenKind::Word => w,
-        TokenKind::Bang => 4,
-        TokenKind::Text => 5,
-        TokenKind::Quoted => 6,
-        TokenKind::Newline => 7,
-        TokenKind::Unlisted => 8,
-        TokenKind::Left => 9,
-        TokenKind::End => 11,
+        _ => kind as u8,
     }
 }
 
@@ -77,6 +67,7 @@ fn put_tokens(
 {
     let mut i = from;
     let mut j = at;
+    // Each token says where the next one starts, so there is no count that a `for` could go through.
     while i < to {
         let t = line_token(s, lead, i);
         j = put_token(store, j, t, o, w);
@@ -88,22 +79,17 @@ fn put_tokens(
 fn is_prefix(r: Role) -> bool
     ensures { result ≡ is_prefix r }
 {
-    match r {
-        Role::Tab => true,
-        Role::Axis(_) => true,
-        Role::Side(_) => true,
-        Role::Action => false,
-    }
+    !matches!(r, Role::Action)
 }
 
 // What a word leads to, as `find_word` of a session says it. That one stands where a line is run, and there alone: called from here too,
 // it would no longer be put there. So a shipped word is looked for among the spellings, one after the other.
-fn command_of_word(words: &[u8], w: &[u8]) -> Named
+fn command_of_word(words: &[u8], w: &[u8]) -> Option<u64>
     ensures { result ≡ lookup_in (table_of (session_of words.now)) w.now }
 {
     match find_added(words, w) {
-        Named::Command(n) => Named::Command(n),
-        Named::Unknown => {
+        Some(n) => Some(n),
+        None => {
             let rows = spellings();
             command_of(&rows, w)
         }
@@ -118,8 +104,8 @@ fn names_prefix(words: &[u8], w: &[u8]) -> bool
         return false;
     }
     match command_of_word(words, w) {
-        Named::Command(n) => is_prefix(role_of(n)),
-        Named::Unknown => false,
+        Some(n) => is_prefix(Role::from(n)),
+        None => false,
     }
 }
 
@@ -144,6 +130,7 @@ fn put_texts(store: &mut [u8], line: &[u8], e: usize, words: &[u8]) -> usize
     let mut at: usize = 0;
     let mut lead = lead_of(part(line, from, e));
     let mut again = is_prefixed(words, part(line, from, e), lead);
+    // Each text says whether another one follows.
     while again {
         let a = lead.argument;
         at = put_tokens(store, at, part(line, from, e), lead, 0, a, from, PREFIX);

@@ -71,6 +71,7 @@ fn blocks_end(s: &[u8], at: usize) -> usize
     ensures { (i : ℕ) → PlaceAt s.now i at → Judged s.now i result }
 {
     let mut t = at;
+    // Left where the rest is shorter than a block and the two bytes before it, which is told by the rest.
     while BLOCK + 2 <= s.len() - t {
         if !all_joined(s, t) {
             return last_start(s, t);

@@ -30,28 +30,18 @@ fn followers(b: u8) -> u8
     4
 }
 
-fn lowest(b: u8) -> u8
-    ensures { result ≡ utf8s.lowest b }
+// The least and the greatest second byte after a first byte.
+#[tactic(auto, unfolding(crate::specs::Utf8::lowest, crate::specs::Utf8::highest))]
+fn second(b: u8) -> (u8, u8)
+    ensures { result ≡ (utf8s.lowest b, utf8s.highest b) }
 {
-    if b == 0xE0 {
-        return 0xA0;
+    match b {
+        0xE0 => (0xA0, 0xBF),
+        0xED => (0x80, 0x9F),
+        0xF0 => (0x90, 0xBF),
+        0xF4 => (0x80, 0x8F),
+        _ => (0x80, 0xBF),
     }
-    if b == 0xF0 {
-        return 0x90;
-    }
-    0x80
-}
-
-fn highest(b: u8) -> u8
-    ensures { result ≡ utf8s.highest b }
-{
-    if b == 0xED {
-        return 0x9F;
-    }
-    if b == 0xF4 {
-        return 0x8F;
-    }
-    0xBF
 }
 
 // The byte at `i` is one that may follow.
@@ -74,7 +64,8 @@ fn any_sequence(s: &[u8], i: usize) -> Option<usize>
     if n == 4 {
         return None;
     }
-    if !follows(s, i + 1, lowest(b), highest(b)) {
+    let (low, high) = second(b);
+    if !follows(s, i + 1, low, high) {
         return None;
     }
     if n == 1 {
@@ -117,6 +108,7 @@ fn sequences(s: &[u8], at: usize, stop: usize) -> Option<usize>
     ensures { Sequence s.now at result }
 {
     let mut i = at;
+    // Each sequence says where the next one starts, so there is no count that a `for` could go through.
     while i < stop {
         i = sequence(s, i)?;
     }
@@ -130,6 +122,7 @@ fn by_blocks(s: &[u8], first: usize) -> bool
 {
     let mut i: usize = 0;
     let mut n = first;
+    // The same of these pieces.
     while i < s.len() {
         let Some(j) = sequences(s, i, i + n.min(s.len() - i)) else {
             return false;

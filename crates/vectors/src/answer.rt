@@ -53,7 +53,8 @@ impl Answer {
         }
     }
 
-    // A number in groups of seven bits, low group first, 0x80 set on all but the last.
+    // A number in groups of seven bits, low group first, 0x80 set on all but the last. What is left says when to stop, so a `for` over the
+    // groups would be left early and is no plainer than the `while`.
     pub fn put_number(&mut self, x: u64)
         ensures { self.new ≡ with self.old (encode x) }
     {

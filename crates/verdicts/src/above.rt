@@ -1,18 +1,24 @@
-// What stands above a place of a report: whether numbered lines are the sheet's there, and the last line that is no text under another.
+// What stands above a place of a report: what numbered lines are there, and the last line that is no text under another.
 use console::told::Errors;
 use files::file::{Unread, window};
 use reports::kind::{Kind, kind_of};
-use scan::part::part;
 use std::fs::File;
-use texts::put::put_text;
+use texts::page::Page;
 
 // As many bytes of a line as show its kind.
 const HEAD: usize = 64;
 
+// What lines with a number are.
+#[derive(Clone, Copy)]
+pub enum Numbered {
+    Sheet,
+    Other,
+}
+
 // What stands above.
 #[derive(Clone, Copy)]
 pub struct Above {
-    pub sheet: bool,
+    pub numbered: Numbered,
     pub kind: Kind,
 }
 
@@ -22,36 +28,27 @@ impl Above {
         match k {
             Kind::Text => self,
             Kind::Exsheet | Kind::Heading => Above {
-                sheet: true,
+                numbered: Numbered::Sheet,
                 kind: k,
             },
-            _ => Above {
-                sheet: self.sheet,
-                kind: k,
-            },
+            _ => Above { kind: k, ..self },
         }
     }
 }
 
-// What stands above as far as a report was read, and how a line starts that was read in part: so many bytes of it are held.
+// What stands above as far as a report was read, and how a line starts that was read in part.
 #[derive(Drop)]
-struct Reading {
-    head: [u8; HEAD],
-    held: usize,
+struct Reading<'a> {
+    head: Page<'a>,
     above: Above,
 }
 
-impl Reading {
-    // Bytes of a line, held behind those that are.
-    fn hold(&mut self, text: &[u8]) {
-        self.held = put_text(&mut self.head, self.held, text);
-    }
-
-    // The line that is held ends.
+impl<'a> Reading<'a> {
+    // The line ends whose head is held.
     fn end(&mut self) {
-        let kind = kind_of(part(&self.head, 0, self.held));
+        let kind = kind_of(self.head.written());
         self.above = self.above.below(kind);
-        self.held = 0;
+        self.head.cut(0);
     }
 
     // Goes through bytes that were read.
@@ -59,10 +56,10 @@ impl Reading {
         for line in bytes.split_inclusive(|b| *b == b'\n') {
             match line.strip_suffix(b"\n") {
                 Some(text) => {
-                    self.hold(text);
+                    self.head.text(text);
                     self.end();
                 }
-                None => self.hold(line),
+                None => self.head.text(line),
             }
         }
     }
@@ -71,11 +68,11 @@ impl Reading {
 // Reads a report up to a place. A proved loop has to end, so it counts its turns up to a number that no run reaches.
 pub fn read_above(rt: &impl Errors, name: &[u8], file: &File, stop: u64) -> Result<Above, Unread> {
     let mut bytes = [0u8; 65536];
+    let mut head = [0u8; HEAD];
     let mut r = Reading {
-        head: [0; HEAD],
-        held: 0,
+        head: Page::new(&mut head),
         above: Above {
-            sheet: false,
+            numbered: Numbered::Other,
             kind: Kind::Other,
         },
     };

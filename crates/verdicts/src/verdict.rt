@@ -1,9 +1,9 @@
 // Which sentence two reports get, by the first line that differs.
-use super::above::Above;
+use super::above::{Above, Numbered};
 use reports::kind::Kind;
 use reports::names::Names;
 use std::cmp::min_by_key;
-use texts::put::{put_decimal, put_text};
+use texts::page::Page;
 
 // The sentences.
 #[derive(Clone, Copy)]
@@ -53,14 +53,22 @@ fn over(k: Kind, x: Above) -> Kind {
     }
 }
 
-// The verdict on a kind of line, with whether numbered lines are the sheet's there.
-fn on_kind(k: Kind, sheet: bool) -> Verdict {
+// The verdict on a line with a number.
+fn on_numbered(n: u64, numbered: Numbered) -> Verdict {
+    match numbered {
+        Numbered::Sheet => Verdict::Line(n),
+        Numbered::Other => Verdict::Answers,
+    }
+}
+
+// The verdict on a kind of line, with what numbered lines are there.
+fn on_kind(k: Kind, numbered: Numbered) -> Verdict {
     match k {
         Kind::Sheet => Verdict::Sheets,
         Kind::Aliases => Verdict::Aliases,
         Kind::Reference => Verdict::References,
         Kind::Alias(n) => Verdict::AliasLine(n),
-        Kind::Numbered(n) if sheet => Verdict::Line(n),
+        Kind::Numbered(n) => on_numbered(n, numbered),
         _ => Verdict::Answers,
     }
 }
@@ -79,64 +87,54 @@ pub fn verdict_on(line: u64, a: Kind, b: Kind, x: Above) -> Verdict {
     if line == 1 {
         return on_first(a, b);
     }
-    on_kind(over(deciding(a, b), x), x.sheet)
+    on_kind(over(deciding(a, b), x), x.numbered)
 }
 
 // A sentence about a line of a file.
-fn put_from(out: &mut [u8], at: usize, before: &[u8], n: u64, behind: &[u8]) -> usize {
-    let i = put_text(out, at, before);
-    let j = put_decimal(out, i, n);
-    put_text(out, j, behind)
+fn put_from(page: &mut Page<'_>, before: &[u8], n: u64, behind: &[u8]) {
+    page.text(before);
+    page.decimal(n);
+    page.text(behind);
 }
 
 // The sentence of a verdict.
-fn put_sentence(out: &mut [u8], at: usize, v: Verdict) -> usize {
+fn put_sentence(page: &mut Page<'_>, v: Verdict) {
     match v {
-        Verdict::Programs => put_text(out, at, b"the reports are of different programs"),
-        Verdict::Versions => put_text(
-            out,
-            at,
+        Verdict::Programs => page.text(b"the reports are of different programs"),
+        Verdict::Versions => page.text(
             b"the reports are by different versions of the program: make both with the same version",
         ),
-        Verdict::Sheets => put_text(out, at, b"the reports are of different sheets"),
-        Verdict::Aliases => put_text(out, at, b"the reports are with different aliases"),
-        Verdict::References => put_text(out, at, b"the reports are of different reference sheets"),
+        Verdict::Sheets => page.text(b"the reports are of different sheets"),
+        Verdict::Aliases => page.text(b"the reports are with different aliases"),
+        Verdict::References => page.text(b"the reports are of different reference sheets"),
         Verdict::Line(n) => put_from(
-            out,
-            at,
+            page,
             b"the same sheet is read differently, from line ",
             n,
             b" of the sheet on",
         ),
         Verdict::AliasLine(n) => put_from(
-            out,
-            at,
+            page,
             b"the same alias file is read differently, from line ",
             n,
             b" of it on",
         ),
-        Verdict::Answers => put_text(out, at, b"the two installations answer differently"),
-        Verdict::Names(Names::Sheet) => put_text(
-            out,
-            at,
+        Verdict::Answers => page.text(b"the two installations answer differently"),
+        Verdict::Names(Names::Sheet) => page.text(
             b"the reports differ only in the name of the sheet",
         ),
-        Verdict::Names(Names::Aliases) => put_text(
-            out,
-            at,
+        Verdict::Names(Names::Aliases) => page.text(
             b"the reports differ only in the name of the alias file",
         ),
-        Verdict::Names(Names::Both) => put_text(
-            out,
-            at,
+        Verdict::Names(Names::Both) => page.text(
             b"the reports differ only in the names of the sheet and the alias file",
         ),
     }
 }
 
 // The line with the verdict.
-pub fn put_verdict(out: &mut [u8], at: usize, v: Verdict) -> usize {
-    let i = put_text(out, at, b"verdict: ");
-    let j = put_sentence(out, i, v);
-    put_text(out, j, b"\n")
+pub fn put_verdict(page: &mut Page<'_>, v: Verdict) {
+    page.text(b"verdict: ");
+    put_sentence(page, v);
+    page.text(b"\n");
 }

@@ -1,9 +1,9 @@
 -- The handlers of windows: what each answers to a reading does not depend on where the reading stands.
 -- Assumes nothing.
-use Rattle.std.specs.Prelude.{◌≡◌, List, ℕ, drop}
+use Rattle.std.specs.Prelude.{◌≡◌, List, ℕ, drop, Ok, Err, Some, None}
 use Rattle.std.proofs.Math.Path.{refl, ap}
 use Rattle.ranges.specs.Shift.{shift_range}
-use Rattle.ranges.specs.declared.range.RangeRead.{RangeRead}
+use Rattle.ranges.specs.Range.{RangeRead}
 use Rattle.context.specs.declared.context.CommandContext.{CommandContext}
 use Rattle.focus.specs.ShiftLaws.{focus_shift, count_shift}
 use Rattle.reading.specs.Shift.{shift_command}
@@ -16,9 +16,9 @@ module _ (k : ℕ) (l : List ℕ) where
   -- the size that a range gives
   size_shift : (g : RangeRead) → size_of l (shift_range k g) ≡ size_of (drop k l) g
   unfolding size_of shift_range
-  size_shift RangeRead.Absent = refl
-  size_shift (RangeRead.Found g j) = ap sized_by (count_shift k l g)
-  size_shift RangeRead.TooLarge = refl
+  size_shift (Ok None) = refl
+  size_shift (Ok (Some (g, j))) = ap sized_by (count_shift k l g)
+  size_shift (Err why) = refl
 
   module _ (d : CommandDescription) where
     -- 10

@@ -1,4 +1,4 @@
 // The words in which actions are told to the people at the console: those of bindings/rust/src/words.rs.
-#![tactic(auto, using(texts::specs::BehindLaws::behind_then))]
+#![tactic(auto, using(texts::specs::WrittenLaws::adding))]
 
 pub mod record;

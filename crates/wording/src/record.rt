@@ -1,102 +1,98 @@
 // Actions in words, read from their records. Document 01, section Session, "The record". Bytes that are no record are dealt with too.
-ghost use Rattle.texts.specs.Behind.{Behind};
+ghost use Rattle.texts.specs.Written.{Adds};
 
 use phrases::focus::focus_behind;
-use phrases::number::number;
-use phrases::step::{Step, bad, count, decimal_behind, flags, name, one_of, past, said};
-use texts::put::put_text;
+use phrases::parts::{count, decimal_behind, flags, name, one_of, said};
+use phrases::reader::Reader;
+use texts::page::Page;
 
 // A window or tab target.
 fn window_or_tab(
-    record: &[u8],
-    out: &mut [u8],
-    s: Step,
+    record: &mut Reader<'_>,
+    page: &mut Page<'_>,
     single: &[u8],
     but: &[u8],
     all: &[u8],
-) -> Step
-    ensures { Behind out.old out.new s.at result.at }
+) -> Option<()>
+    ensures { Adds page.old page.new }
 {
-    let n = number(record, s.from);
-    let t = past(s, n);
-    match n.value {
-        0 => focus_behind(record, out, t, single),
-        1 => focus_behind(record, out, t, but),
-        2 => said(out, t, all),
-        _ => bad(t),
+    match record.number()? {
+        0 => focus_behind(record, page, single),
+        1 => focus_behind(record, page, but),
+        2 => said(page, all),
+        _ => None,
     }
 }
 
 // What is opened.
-fn open_target(record: &[u8], out: &mut [u8], s: Step) -> Step
-    ensures { Behind out.old out.new s.at result.at }
+fn open_target(record: &mut Reader<'_>, page: &mut Page<'_>) -> Option<()>
+    ensures { Adds page.old page.new }
 {
-    let n = number(record, s.from);
-    let t = past(s, n);
-    match n.value {
-        0 => said(out, t, b"current"),
-        1 => said(out, t, b"alternate"),
-        2 => said(out, t, b"unnamed"),
-        3 => name(record, out, t),
-        _ => bad(t),
+    match record.number()? {
+        0 => said(page, b"current"),
+        1 => said(page, b"alternate"),
+        2 => said(page, b"unnamed"),
+        3 => name(record, page),
+        _ => None,
     }
 }
 
 // The name under which a window is written, or none.
-fn written_name(record: &[u8], out: &mut [u8], s: Step) -> Step
-    ensures { Behind out.old out.new s.at result.at }
+fn written_name(record: &mut Reader<'_>, page: &mut Page<'_>) -> Option<()>
+    ensures { Adds page.old page.new }
 {
-    let n = number(record, s.from);
-    let t = past(s, n);
-    match n.value {
-        0 => t,
+    match record.number()? {
+        0 => Some(()),
         1 => {
-            let u = said(out, t, b" to ");
-            name(record, out, u)
+            page.text(b" to ");
+            name(record, page)
         }
-        _ => bad(t),
+        _ => None,
     }
 }
 
 // How a window is written: under which name, and with which flags.
-fn written(record: &[u8], out: &mut [u8], s: Step) -> Step
-    ensures { Behind out.old out.new s.at result.at }
+fn written(record: &mut Reader<'_>, page: &mut Page<'_>) -> Option<()>
+    ensures { Adds page.old page.new }
 {
-    let t = written_name(record, out, s);
-    one_of(record, out, t, b"", b", force")
+    written_name(record, page)?;
+    one_of(record, page, b"", b", force")
 }
 
 // A change of size.
-fn change(record: &[u8], out: &mut [u8], s: Step) -> Step
-    ensures { Behind out.old out.new s.at result.at }
+fn change(record: &mut Reader<'_>, page: &mut Page<'_>) -> Option<()>
+    ensures { Adds page.old page.new }
 {
-    let n = number(record, s.from);
-    let t = past(s, n);
-    match n.value {
-        0 => decimal_behind(record, out, t, b" to "),
-        1 => decimal_behind(record, out, t, b" by +"),
-        2 => decimal_behind(record, out, t, b" by -"),
-        _ => bad(t),
+    match record.number()? {
+        0 => decimal_behind(record, page, b" to "),
+        1 => decimal_behind(record, page, b" by +"),
+        2 => decimal_behind(record, page, b" by -"),
+        _ => None,
     }
 }
 
 // Close, of a window or a tab, by its texts.
-fn close(record: &[u8], out: &mut [u8], s: Step, single: &[u8], but: &[u8], all: &[u8]) -> Step
-    ensures { Behind out.old out.new s.at result.at }
+fn close(
+    record: &mut Reader<'_>,
+    page: &mut Page<'_>,
+    single: &[u8],
+    but: &[u8],
+    all: &[u8],
+) -> Option<()>
+    ensures { Adds page.old page.new }
 {
-    let t = said(out, s, b"close ");
-    let u = window_or_tab(record, out, t, single, but, all);
-    flags(record, out, u, b", quit", b", force")
+    page.text(b"close ");
+    window_or_tab(record, page, single, but, all)?;
+    flags(record, page, b", quit", b", force")
 }
 
 // Close of a window.
-fn close_window(record: &[u8], out: &mut [u8], s: Step) -> Step
-    ensures { Behind out.old out.new s.at result.at }
+fn close_window(record: &mut Reader<'_>, page: &mut Page<'_>) -> Option<()>
+    ensures { Adds page.old page.new }
 {
     close(
         record,
-        out,
-        s,
+        page,
         b"window ",
         b"all windows but ",
         b"all windows",
@@ -104,179 +100,184 @@ fn close_window(record: &[u8], out: &mut [u8], s: Step) -> Step
 }
 
 // Close of a tab.
-fn close_tab(record: &[u8], out: &mut [u8], s: Step) -> Step
-    ensures { Behind out.old out.new s.at result.at }
+fn close_tab(record: &mut Reader<'_>, page: &mut Page<'_>) -> Option<()>
+    ensures { Adds page.old page.new }
 {
-    close(record, out, s, b"tab ", b"all tabs but ", b"all tabs")
+    close(record, page, b"tab ", b"all tabs but ", b"all tabs")
 }
 
 // Resize.
-fn resize(record: &[u8], out: &mut [u8], s: Step) -> Step
-    ensures { Behind out.old out.new s.at result.at }
+fn resize(record: &mut Reader<'_>, page: &mut Page<'_>) -> Option<()>
+    ensures { Adds page.old page.new }
 {
-    let t = focus_behind(record, out, s, b"resize window ");
-    let u = one_of(record, out, t, b", height", b", width");
-    change(record, out, u)
+    focus_behind(record, page, b"resize window ")?;
+    one_of(record, page, b", height", b", width")?;
+    change(record, page)
 }
 
 // What is opened, and how.
-fn opened(record: &[u8], out: &mut [u8], s: Step, lead: &[u8]) -> Step
-    ensures { Behind out.old out.new s.at result.at }
+fn opened(record: &mut Reader<'_>, page: &mut Page<'_>, lead: &[u8]) -> Option<()>
+    ensures { Adds page.old page.new }
 {
-    let t = said(out, s, lead);
-    let u = open_target(record, out, t);
-    flags(record, out, u, b", force", b", read-only")
+    page.text(lead);
+    open_target(record, page)?;
+    flags(record, page, b", force", b", read-only")
 }
 
-// On which side of this one a window is opened: axis and side.
-fn side(record: &[u8], out: &mut [u8], s: Step) -> Step
-    ensures { Behind out.old out.new s.at result.at }
+// The axis along which a window is opened, which its side and its size say in words.
+#[derive(Clone, Copy)]
+enum Axis {
+    Height,
+    Width,
+}
+
+// The axis along which a window is opened.
+fn read_axis(record: &mut Reader<'_>) -> Option<Axis> {
+    match record.number()? {
+        0 => Some(Axis::Height),
+        1 => Some(Axis::Width),
+        _ => None,
+    }
+}
+
+// On which side of this one a window is opened.
+fn side(record: &mut Reader<'_>, page: &mut Page<'_>, along: Axis) -> Option<()>
+    ensures { Adds page.old page.new }
 {
-    let n = number(record, s.from);
-    let t = past(s, n);
-    match n.value {
-        0 => one_of(record, out, t, b", below", b", above"),
-        1 => one_of(record, out, t, b", on the right", b", on the left"),
-        _ => bad(t),
+    match along {
+        Axis::Height => one_of(record, page, b", below", b", above"),
+        Axis::Width => one_of(record, page, b", on the right", b", on the left"),
     }
 }
 
 // The size along an axis; nothing where the context decides.
-fn size(record: &[u8], out: &mut [u8], s: Step, axis: u64) -> Step
-    ensures { Behind out.old out.new s.at result.at }
+fn size(record: &mut Reader<'_>, page: &mut Page<'_>, along: Axis) -> Option<()>
+    ensures { Adds page.old page.new }
 {
-    if axis == 0 {
-        return count(record, out, s, b", height ");
+    match along {
+        Axis::Height => count(record, page, b", height "),
+        Axis::Width => count(record, page, b", width "),
     }
-    count(record, out, s, b", width ")
 }
 
 // How often, if it is not once.
-fn often(record: &[u8], out: &mut [u8], s: Step) -> Step
-    ensures { Behind out.old out.new s.at result.at }
+fn often(record: &mut Reader<'_>, page: &mut Page<'_>) -> Option<()>
+    ensures { Adds page.old page.new }
 {
-    let n = number(record, s.from);
-    if n.value == 1 {
-        return past(s, n);
+    let times = record.number()?;
+    if times != 1 {
+        page.text(b", ");
+        page.decimal(times);
+        page.text(b" times");
     }
-    let t = decimal_behind(record, out, s, b", ");
-    said(out, t, b" times")
+    Some(())
 }
 
 // A count of times.
-fn times(record: &[u8], out: &mut [u8], s: Step) -> Step
-    ensures { Behind out.old out.new s.at result.at }
+fn times(record: &mut Reader<'_>, page: &mut Page<'_>) -> Option<()>
+    ensures { Adds page.old page.new }
 {
-    let n = number(record, s.from);
-    let t = past(s, n);
-    match n.value {
-        0 => said(out, t, b", as often as the context says"),
-        1 => often(record, out, t),
-        _ => bad(t),
+    match record.number()? {
+        0 => said(page, b", as often as the context says"),
+        1 => often(record, page),
+        _ => None,
     }
 }
 
 // Open: where, and the size of the new window.
-fn open(record: &[u8], out: &mut [u8], s: Step) -> Step
-    ensures { Behind out.old out.new s.at result.at }
+fn open(record: &mut Reader<'_>, page: &mut Page<'_>) -> Option<()>
+    ensures { Adds page.old page.new }
 {
-    let t = opened(record, out, s, b"open ");
-    let axis = number(record, t.from);
-    let u = side(record, out, t);
-    size(record, out, u, axis.value)
+    opened(record, page, b"open ")?;
+    let along = read_axis(record)?;
+    side(record, page, along)?;
+    size(record, page, along)
 }
 
 // Split: where, and how often.
-fn split(record: &[u8], out: &mut [u8], s: Step) -> Step
-    ensures { Behind out.old out.new s.at result.at }
+fn split(record: &mut Reader<'_>, page: &mut Page<'_>) -> Option<()>
+    ensures { Adds page.old page.new }
 {
-    let t = opened(record, out, s, b"split ");
-    let u = side(record, out, t);
-    times(record, out, u)
+    opened(record, page, b"split ")?;
+    let along = read_axis(record)?;
+    side(record, page, along)?;
+    times(record, page)
 }
 
 // Switch.
-fn switch(record: &[u8], out: &mut [u8], s: Step) -> Step
-    ensures { Behind out.old out.new s.at result.at }
+fn switch(record: &mut Reader<'_>, page: &mut Page<'_>) -> Option<()>
+    ensures { Adds page.old page.new }
 {
-    opened(record, out, s, b"switch to ")
+    opened(record, page, b"switch to ")
 }
 
 // Write.
-fn write(record: &[u8], out: &mut [u8], s: Step) -> Step
-    ensures { Behind out.old out.new s.at result.at }
+fn write(record: &mut Reader<'_>, page: &mut Page<'_>) -> Option<()>
+    ensures { Adds page.old page.new }
 {
-    let t = said(out, s, b"write ");
-    let u = window_or_tab(
+    page.text(b"write ");
+    window_or_tab(
         record,
-        out,
-        t,
+        page,
         b"window ",
         b"all windows but ",
         b"all windows",
-    );
-    written(record, out, u)
+    )?;
+    written(record, page)
 }
 
 // Open of a tab.
-fn open_tab(record: &[u8], out: &mut [u8], s: Step) -> Step
-    ensures { Behind out.old out.new s.at result.at }
+fn open_tab(record: &mut Reader<'_>, page: &mut Page<'_>) -> Option<()>
+    ensures { Adds page.old page.new }
 {
-    let t = opened(record, out, s, b"open tab ");
-    focus_behind(record, out, t, b", at ")
+    opened(record, page, b"open tab ")?;
+    focus_behind(record, page, b", at ")
 }
 
 // Focus of a tab.
-fn focus_tab(record: &[u8], out: &mut [u8], s: Step) -> Step
-    ensures { Behind out.old out.new s.at result.at }
+fn focus_tab(record: &mut Reader<'_>, page: &mut Page<'_>) -> Option<()>
+    ensures { Adds page.old page.new }
 {
-    focus_behind(record, out, s, b"focus tab ")
+    focus_behind(record, page, b"focus tab ")
 }
 
 // Move of a tab.
-fn move_tab(record: &[u8], out: &mut [u8], s: Step) -> Step
-    ensures { Behind out.old out.new s.at result.at }
+fn move_tab(record: &mut Reader<'_>, page: &mut Page<'_>) -> Option<()>
+    ensures { Adds page.old page.new }
 {
-    focus_behind(record, out, s, b"move tab to ")
+    focus_behind(record, page, b"move tab to ")
 }
 
 // A record, by its kind. A text is made anew where the function starts that has it, so each kind has a function of its own.
-fn action(record: &[u8], out: &mut [u8], s: Step) -> Step
-    ensures { Behind out.old out.new s.at result.at }
+fn action(record: &mut Reader<'_>, page: &mut Page<'_>) -> Option<()>
+    ensures { Adds page.old page.new }
 {
-    let n = number(record, s.from);
-    let t = past(s, n);
-    match n.value {
-        0 => said(out, t, b"nothing"),
-        1 => close_window(record, out, t),
-        2 => resize(record, out, t),
-        3 => open(record, out, t),
-        4 => split(record, out, t),
-        5 => switch(record, out, t),
-        6 => write(record, out, t),
-        7 => close_tab(record, out, t),
-        8 => focus_tab(record, out, t),
-        9 => move_tab(record, out, t),
-        10 => open_tab(record, out, t),
-        _ => bad(t),
+    match record.number()? {
+        0 => said(page, b"nothing"),
+        1 => close_window(record, page),
+        2 => resize(record, page),
+        3 => open(record, page),
+        4 => split(record, page),
+        5 => switch(record, page),
+        6 => write(record, page),
+        7 => close_tab(record, page),
+        8 => focus_tab(record, page),
+        9 => move_tab(record, page),
+        10 => open_tab(record, page),
+        _ => None,
     }
 }
 
 // A whole record in words.
-pub fn put_record(out: &mut [u8], at: usize, record: &[u8]) -> usize
-    ensures { Behind out.old out.new at result }
+pub fn put_record(page: &mut Page<'_>, record: &[u8])
+    ensures { Adds page.old page.new }
 {
-    let s = action(
-        record,
-        out,
-        Step {
-            from: 0,
-            at,
-            good: true,
-        },
-    );
-    if s.good && s.from == record.len() {
-        return s.at;
+    let start = page.len();
+    let mut reader = Reader::new(record);
+    let told = action(&mut reader, page);
+    if told.is_some() && reader.rest().is_empty() {
+        return;
     }
-    put_text(out, at, b"the bytes are not a record")
+    page.cut(start);
+    page.text(b"the bytes are not a record");
 }

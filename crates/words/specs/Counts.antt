@@ -2,15 +2,14 @@
 -- each word leads to its command.
 -- All by computation.
 -- Assumes nothing.
-use Rattle.std.specs.Prelude.{◌≡◌, refl, Bool, true, false, ◌&&◌, List, [], ◌∷◌, ℕ, suc, eqb, leb, length}
+use Rattle.std.specs.Prelude.{◌≡◌, refl, Bool, true, false, ◌&&◌, List, [], ◌∷◌, ℕ, suc, eqb, leb, length, Option, Some, None}
 use Rattle.limits.specs.Limits.{last_command}
 use Rattle.words.specs.Words.{Row, aliases, names, shipped, same, lookup_in, lookup}
-use Rattle.words.specs.declared.words.Named.{Named}
 
 -- how many different words there are
 abbrev pub different : List Row → ℕ
 different [] = 0
-different (r ∷ rs) = elim (lookup_in rs r.word) [ Named.Command c ↦ different rs | Named.Unknown ↦ suc (different rs) ]
+different (r ∷ rs) = elim (lookup_in rs r.word) [ Some c ↦ different rs | None ↦ suc (different rs) ]
 
 pub commands_28 : length names ≡ 28
 unfolding names
@@ -43,9 +42,9 @@ unfolding shipped aliases names
 words_last = refl
 
 -- whether each word of the rows leads to the command that stands beside it
-abbrev leads : Named → ℕ → Bool
-leads (Named.Command c) d = eqb c d
-leads Named.Unknown d = false
+abbrev leads : Option ℕ → ℕ → Bool
+leads (Some c) d = eqb c d
+leads None d = false
 
 abbrev pub all_lead : List Row → Bool
 all_lead [] = true

@@ -1,6 +1,6 @@
 -- Laws of lookup by numbers: it finds what lookup by bytes finds.
 -- Assumes nothing.
-use Rattle.std.specs.Prelude.{◌≡◌, refl, Bool, true, false, ◌&&◌, List, [], ◌∷◌, ◌++◌, ℕ, zero, suc, ◌+◌, ◌*◌, ◌^◌, ◌<◌, ◌≤◌, eqb, ltb, leb, length, get_or, take, drop}
+use Rattle.std.specs.Prelude.{◌≡◌, refl, Bool, true, false, ◌&&◌, List, [], ◌∷◌, ◌++◌, ℕ, zero, suc, ◌+◌, ◌*◌, ◌^◌, ◌<◌, ◌≤◌, eqb, ltb, leb, length, get_or, take, drop, None}
 use Rattle.std.proofs.Common.{◌∙◌, sym, ap, add-one, pow-suc, add-mul, mul_assoc, mul_comm, zero-add, arith, drop_of_length-le, length-drop, take_all, take-add, drop-drop, length-take-le, eqb-true, eq-eqb, ne_eqb, ltb-true, leb-true}
 use Rattle.std.proofs.Math.Nat.{pow-le-pow_right}
 use Rattle.std.proofs.Math.Decide.{dec_lt}
@@ -10,7 +10,6 @@ use Rattle.scan.specs.Number.{number_at}
 use Rattle.words.specs.Words.{Row, aliases, names, shipped, same, lookup_in, lookup}
 use Rattle.words.specs.LookupLaws.{same_eq, lookup_here, lookup_past}
 use Rattle.words.specs.Keys.{pack_from, pack, of_length, keys_of, key_in, keyed}
-use Rattle.words.specs.declared.words.Named.{Named}
 
 -- bytes ---------------------------------------------------------------------------------------------------------------------------
 
@@ -172,15 +171,15 @@ shipped_longer : (n : ℕ) → 12 ≤ n → of_length n shipped ≡ []
 unfolding shipped aliases names
 shipped_longer n h = none_longer n shipped refl h
 
-pub keyed_longer : (n f b : ℕ) → 12 ≤ n → keyed n f b ≡ Named.Unknown
+pub keyed_longer : (n f b : ℕ) → 12 ≤ n → keyed n f b ≡ None
 unfolding keyed key_in keys_of
 keyed_longer n f b h = rw (shipped_longer n h)
 
-pub keyed_empty : (f b : ℕ) → keyed 0 f b ≡ Named.Unknown
+pub keyed_empty : (f b : ℕ) → keyed 0 f b ≡ None
 unfolding keyed key_in keys_of of_length shipped aliases names
 keyed_empty f b = refl
 
-pub lookup_longer : (w : List ℕ) → Bytes w → 12 ≤ length w → lookup w ≡ Named.Unknown
+pub lookup_longer : (w : List ℕ) → Bytes w → 12 ≤ length w → lookup w ≡ None
 lookup_longer w h l = shipped_key w h ∙ keyed_longer (length w) _ _ l
 
 -- numbers of bytes in a row -------------------------------------------------------------------------------------------------------
@@ -259,9 +258,9 @@ above : (n : ℕ) → (n ≡ 7 → ⊥) → (n ≡ 8 → ⊥) → (n ≡ 9 → �
 above n a b c d e h = omega arith
 
 pub none_found : (w : List ℕ) (n : ℕ) → Bytes w → length w ≡ n → (n ≡ 1 → ⊥) → (n ≡ 2 → ⊥) → (n ≡ 3 → ⊥) → (n ≡ 4 → ⊥) → (n ≡ 5 → ⊥) → (n ≡ 6 → ⊥) → (n ≡ 7 → ⊥) → (n ≡ 8 → ⊥) →
-    (n ≡ 9 → ⊥) → (n ≡ 10 → ⊥) → (n ≡ 11 → ⊥) → lookup w ≡ Named.Unknown
+    (n ≡ 9 → ⊥) → (n ≡ 10 → ⊥) → (n ≡ 11 → ⊥) → lookup w ≡ None
 none_found w n h l a b c d e f g i j k m = go (dec_lt n 7)
   where
-    go : Dec (n < 7) → lookup w ≡ Named.Unknown
+    go : Dec (n < 7) → lookup w ≡ None
     go (yes p) = let z = l ∙ between n a b c d e f (omega arith) in shipped_key w h ∙ rw z (keyed_empty _ _)
     go (no p) = lookup_longer w h (rw l (above n g i j k m (omega arith)))

@@ -1,8 +1,7 @@
 -- Lookup by numbers: the words of one length, each as two numbers, which its first eight bytes and the rest make.
 -- Assumes nothing.
-use Rattle.std.specs.Prelude.{true, false, cond, ◌&&◌, List, [], ◌∷◌, ℕ, ◌+◌, ◌*◌, eqb, length, take, drop}
+use Rattle.std.specs.Prelude.{true, false, cond, ◌&&◌, List, [], ◌∷◌, ℕ, ◌+◌, ◌*◌, eqb, length, take, drop, Option, Some, None}
 use Rattle.words.specs.Words.{Row, shipped}
-use Rattle.words.specs.declared.words.Named.{Named}
 
 -- k, and then the bytes of w, to the base 256
 unfoldable pub pack_from : ℕ → List ℕ → ℕ
@@ -29,10 +28,10 @@ keys_of [] = []
 keys_of (r ∷ rs) = record { front = pack (take 8 r.word); back = pack (drop 8 r.word); command = r.command } ∷ keys_of rs
 
 -- the command of the first that has the numbers
-unfoldable pub key_in : List Key → ℕ → ℕ → Named
-key_in [] f b = Named.Unknown
-key_in (x ∷ xs) f b = cond (eqb f x.front && eqb b x.back) (Named.Command x.command) (key_in xs f b)
+unfoldable pub key_in : List Key → ℕ → ℕ → Option ℕ
+key_in [] f b = None
+key_in (x ∷ xs) f b = cond (eqb f x.front && eqb b x.back) (Some x.command) (key_in xs f b)
 
 -- the shipped words of n bytes, by their numbers
-unfoldable pub keyed : ℕ → ℕ → ℕ → Named
+unfoldable pub keyed : ℕ → ℕ → ℕ → Option ℕ
 keyed n f b = key_in (keys_of (of_length n shipped)) f b

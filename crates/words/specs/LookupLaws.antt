@@ -1,11 +1,10 @@
 -- Laws of words that are the same, and of lookup, row by row.
 -- Assumes nothing.
-use Rattle.std.specs.Prelude.{◌≡◌, refl, Bool, true, false, List, [], ◌∷◌, ◌++◌, ℕ, eqb}
+use Rattle.std.specs.Prelude.{◌≡◌, refl, Bool, true, false, List, [], ◌∷◌, ◌++◌, ℕ, eqb, Option, Some, None}
 use Rattle.std.proofs.Common.{◌∙◌, ap, eqb-true, eq-eqb}
 use Rattle.std.proofs.lemmas.Bool.{false≢true}
 use Rattle.scan.specs.RunLaws.{and_left, and_right}
 use Rattle.words.specs.Words.{Row, same, lookup_in}
-use Rattle.words.specs.declared.words.Named.{Named}
 
 -- the same word
 pub same_eq : (v w : List ℕ) → same v w ≡ true → v ≡ w
@@ -22,7 +21,7 @@ same_refl [] = refl
 same_refl (x ∷ w) = rw (eq-eqb x x refl) (same_refl w)
 
 -- the first row has the word, or it is passed
-pub lookup_here : (r : Row) (rs : List Row) (w : List ℕ) → same w r.word ≡ true → lookup_in (r ∷ rs) w ≡ Named.Command r.command
+pub lookup_here : (r : Row) (rs : List Row) (w : List ℕ) → same w r.word ≡ true → lookup_in (r ∷ rs) w ≡ Some r.command
 unfolding lookup_in
 lookup_here r rs w h = rw (lookup_in, h)
 
@@ -31,9 +30,9 @@ unfolding lookup_in
 lookup_past r rs w h = rw (lookup_in, h)
 
 -- the first rows come first
-abbrev or_else : Named → Named → Named
-or_else (Named.Command n) m = Named.Command n
-or_else Named.Unknown m = m
+abbrev or_else : Option ℕ → Option ℕ → Option ℕ
+or_else (Some n) m = Some n
+or_else None m = m
 
 pub lookup_append : (rs ts : List Row) (w : List ℕ) → lookup_in (rs ++ ts) w ≡ or_else (lookup_in rs w) (lookup_in ts w)
 unfolding lookup_in

@@ -1,10 +1,9 @@
 -- The shipped words. Document 01, section Commands: "28 commands, 42 aliases, 68 different words, as in default_cmds; numbers 0 to
 -- 27 in its order. Added aliases are tried first, then shipped ones, then names."
 -- Assumes nothing.
-use Rattle.std.specs.Prelude.{Bool, true, false, ◌&&◌, List, [], ◌∷◌, ◌++◌, ℕ, eqb}
+use Rattle.std.specs.Prelude.{Bool, true, false, ◌&&◌, List, [], ◌∷◌, ◌++◌, ℕ, eqb, Option, Some, None}
 use Prim.Native.String.{String}
 use Rattle.scan.specs.Ascii.{ascii}
-use Rattle.words.specs.declared.words.Named.{Named}
 
 -- a word and the command that it leads to
 pub record Row : Type 0 where
@@ -50,10 +49,10 @@ same (x ∷ xs) [] = false
 same (x ∷ xs) (y ∷ ys) = eqb x y && same xs ys
 
 -- the command of the first row that has the word
-unfoldable pub lookup_in : List Row → List ℕ → Named
-lookup_in [] w = Named.Unknown
-lookup_in (r ∷ rs) w = elim (same w r.word) [ true ↦ Named.Command r.command | false ↦ lookup_in rs w ]
+unfoldable pub lookup_in : List Row → List ℕ → Option ℕ
+lookup_in [] w = None
+lookup_in (r ∷ rs) w = elim (same w r.word) [ true ↦ Some r.command | false ↦ lookup_in rs w ]
 
 -- what a word leads to with the words as shipped
-unfoldable pub lookup : List ℕ → Named
+unfoldable pub lookup : List ℕ → Option ℕ
 lookup w = lookup_in shipped w

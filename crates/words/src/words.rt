@@ -1,19 +1,12 @@
 // The shipped words: 28 names and 42 aliases, 68 different words, each leading to a command by its number in default_cmds' order.
-// A word is looked up by its length and by two numbers, which its first eight bytes and the rest make.
-ghost use Rattle.std.specs.Prelude.{◌≡◌, cond, ◌+◌, ◌≤◌, eqb, length};
+// A word is looked up by its length and by two numbers, which its first eight bytes and the rest make. The words of a length are a `match` on
+// numbers, which is compiled to comparisons that halve them; a table of words would be searched.
+ghost use Rattle.std.specs.Prelude.{◌≡◌, cond, ◌+◌, ◌≤◌, eqb, length, Some, None};
 ghost use Rattle.scan.specs.Number.{number_at};
-ghost use Rattle.words.specs.declared.words.Named.{Named};
 ghost use Rattle.words.specs.Words.{lookup as lookup_of};
 ghost use Rattle.words.specs.Keys.{keyed};
 
 use scan::number::eight;
-
-// What a word leads to.
-#[derive(Clone, Copy)]
-pub enum Named {
-    Command(u64),
-    Unknown,
-}
 
 // The number of the `N` bytes from `i` on: of several the first counts highest.
 fn number<const N: usize>(w: &[u8], i: usize) -> u64
@@ -29,209 +22,209 @@ fn number<const N: usize>(w: &[u8], i: usize) -> u64
 }
 
 // The words of 1 byte.
-fn word1(f: u64) -> Named
+fn word1(f: u64) -> Option<u64>
     ensures { result ≡ keyed 1 f 0 }
 {
     match f {
         // ~
-        0x7E => Named::Command(1),
+        0x7E => Some(1),
         // r
-        0x72 => Named::Command(2),
+        0x72 => Some(2),
         // p
-        0x70 => Named::Command(3),
+        0x70 => Some(3),
         // s
-        0x73 => Named::Command(4),
+        0x73 => Some(4),
         // q
-        0x71 => Named::Command(7),
+        0x71 => Some(7),
         // w
-        0x77 => Named::Command(22),
+        0x77 => Some(22),
         // !
-        0x21 => Named::Command(0),
+        0x21 => Some(0),
         // &
-        0x26 => Named::Command(1),
-        _ => Named::Unknown,
+        0x26 => Some(1),
+        _ => None,
     }
 }
 
 // The words of 2 bytes.
-fn word2(f: u64) -> Named
+fn word2(f: u64) -> Option<u64>
     ensures { result ≡ keyed 2 f 0 }
 {
     match f {
         // &&
-        0x2626 => Named::Command(1),
+        0x2626 => Some(1),
         // ~&
-        0x7E26 => Named::Command(1),
+        0x7E26 => Some(1),
         // on
-        0x6F6E => Named::Command(6),
+        0x6F6E => Some(6),
         // qa
-        0x7161 => Named::Command(8),
+        0x7161 => Some(8),
         // sp
-        0x7370 => Named::Command(10),
+        0x7370 => Some(10),
         // vs
-        0x7673 => Named::Command(11),
+        0x7673 => Some(11),
         // wa
-        0x7761 => Named::Command(23),
-        _ => Named::Unknown,
+        0x7761 => Some(23),
+        _ => None,
     }
 }
 
 // The words of 3 bytes.
-fn word3(f: u64) -> Named
+fn word3(f: u64) -> Option<u64>
     ensures { result ≡ keyed 3 f 0 }
 {
     match f {
         // clo
-        0x636C6F => Named::Command(5),
+        0x636C6F => Some(5),
         // res
-        0x726573 => Named::Command(9),
+        0x726573 => Some(9),
         // vsp
-        0x767370 => Named::Command(11),
+        0x767370 => Some(11),
         // vie
-        0x766965 => Named::Command(12),
+        0x766965 => Some(12),
         // hor
-        0x686F72 => Named::Command(24),
+        0x686F72 => Some(24),
         // abo
-        0x61626F => Named::Command(26),
+        0x61626F => Some(26),
         // bel
-        0x62656C => Named::Command(27),
+        0x62656C => Some(27),
         // tab
-        0x746162 => Named::Command(13),
-        _ => Named::Unknown,
+        0x746162 => Some(13),
+        _ => None,
     }
 }
 
 // The words of 4 bytes.
-fn word4(f: u64) -> Named
+fn word4(f: u64) -> Option<u64>
     ensures { result ≡ keyed 4 f 0 }
 {
     match f {
         // only
-        0x6F6E6C79 => Named::Command(6),
+        0x6F6E6C79 => Some(6),
         // qall
-        0x71616C6C => Named::Command(8),
+        0x71616C6C => Some(8),
         // tabc
-        0x74616263 => Named::Command(14),
+        0x74616263 => Some(14),
         // tabe
-        0x74616265 => Named::Command(15),
+        0x74616265 => Some(15),
         // tabm
-        0x7461626D => Named::Command(16),
+        0x7461626D => Some(16),
         // tabn
-        0x7461626E => Named::Command(17),
+        0x7461626E => Some(17),
         // tabo
-        0x7461626F => Named::Command(18),
+        0x7461626F => Some(18),
         // tabp
-        0x74616270 => Named::Command(19),
+        0x74616270 => Some(19),
         // tabN
-        0x7461624E => Named::Command(19),
+        0x7461624E => Some(19),
         // tabr
-        0x74616272 => Named::Command(20),
+        0x74616272 => Some(20),
         // tabl
-        0x7461626C => Named::Command(21),
+        0x7461626C => Some(21),
         // vert
-        0x76657274 => Named::Command(25),
+        0x76657274 => Some(25),
         // read
-        0x72656164 => Named::Command(2),
+        0x72656164 => Some(2),
         // quit
-        0x71756974 => Named::Command(7),
+        0x71756974 => Some(7),
         // view
-        0x76696577 => Named::Command(12),
+        0x76696577 => Some(12),
         // wall
-        0x77616C6C => Named::Command(23),
-        _ => Named::Unknown,
+        0x77616C6C => Some(23),
+        _ => None,
     }
 }
 
 // The words of 5 bytes.
-fn word5(f: u64) -> Named
+fn word5(f: u64) -> Option<u64>
     ensures { result ≡ keyed 5 f 0 }
 {
     match f {
         // close
-        0x636C6F7365 => Named::Command(5),
+        0x636C6F7365 => Some(5),
         // quita
-        0x7175697461 => Named::Command(8),
+        0x7175697461 => Some(8),
         // lefta
-        0x6C65667461 => Named::Command(26),
+        0x6C65667461 => Some(26),
         // print
-        0x7072696E74 => Named::Command(3),
+        0x7072696E74 => Some(3),
         // split
-        0x73706C6974 => Named::Command(10),
+        0x73706C6974 => Some(10),
         // write
-        0x7772697465 => Named::Command(22),
-        _ => Named::Unknown,
+        0x7772697465 => Some(22),
+        _ => None,
     }
 }
 
 // The words of 6 bytes.
-fn word6(f: u64) -> Named
+fn word6(f: u64) -> Option<u64>
     ensures { result ≡ keyed 6 f 0 }
 {
     match f {
         // tabnew
-        0x7461626E6577 => Named::Command(15),
+        0x7461626E6577 => Some(15),
         // tabfir
-        0x746162666972 => Named::Command(20),
+        0x746162666972 => Some(20),
         // rightb
-        0x726967687462 => Named::Command(27),
+        0x726967687462 => Some(27),
         // resize
-        0x726573697A65 => Named::Command(9),
+        0x726573697A65 => Some(9),
         // vsplit
-        0x7673706C6974 => Named::Command(11),
-        _ => Named::Unknown,
+        0x7673706C6974 => Some(11),
+        _ => None,
     }
 }
 
 // The words of 7 bytes.
-fn word7(f: u64) -> Named
+fn word7(f: u64) -> Option<u64>
     ensures { result ≡ keyed 7 f 0 }
 {
     match f {
         // tabNext
-        0x7461624E657874 => Named::Command(19),
+        0x7461624E657874 => Some(19),
         // quitall
-        0x71756974616C6C => Named::Command(8),
+        0x71756974616C6C => Some(8),
         // tabedit
-        0x74616265646974 => Named::Command(15),
+        0x74616265646974 => Some(15),
         // tabmove
-        0x7461626D6F7665 => Named::Command(16),
+        0x7461626D6F7665 => Some(16),
         // tabnext
-        0x7461626E657874 => Named::Command(17),
+        0x7461626E657874 => Some(17),
         // tabonly
-        0x7461626F6E6C79 => Named::Command(18),
+        0x7461626F6E6C79 => Some(18),
         // tablast
-        0x7461626C617374 => Named::Command(21),
-        _ => Named::Unknown,
+        0x7461626C617374 => Some(21),
+        _ => None,
     }
 }
 
 // The words of 8 bytes.
-fn word8(f: u64) -> Named
+fn word8(f: u64) -> Option<u64>
     ensures { result ≡ keyed 8 f 0 }
 {
     match f {
         // tabclose
-        0x746162636C6F7365 => Named::Command(14),
+        0x746162636C6F7365 => Some(14),
         // tabfirst
-        0x7461626669727374 => Named::Command(20),
+        0x7461626669727374 => Some(20),
         // vertical
-        0x766572746963616C => Named::Command(25),
-        _ => Named::Unknown,
+        0x766572746963616C => Some(25),
+        _ => None,
     }
 }
 
 // A word whose first eight bytes are known, by the rest.
-fn ended(b: u64, rest: u64, command: u64) -> Named
-    ensures { result ≡ cond (eqb b rest) (Named.Command command) Named.Unknown }
+fn ended(b: u64, rest: u64, command: u64) -> Option<u64>
+    ensures { result ≡ cond (eqb b rest) (Some command) None }
 {
     if b == rest {
-        return Named::Command(command);
+        return Some(command);
     }
-    Named::Unknown
+    None
 }
 
 // The words of 9 bytes.
-fn word9(f: u64, b: u64) -> Named
+fn word9(f: u64, b: u64) -> Option<u64>
     ensures { result ≡ keyed 9 f b }
 {
     match f {
@@ -241,12 +234,12 @@ fn word9(f: u64, b: u64) -> Named
         0x6C65667461626F76 => ended(b, 0x65, 26),
         // abovelef, t
         0x61626F76656C6566 => ended(b, 0x74, 26),
-        _ => Named::Unknown,
+        _ => None,
     }
 }
 
 // The words of 10 bytes.
-fn word10(f: u64, b: u64) -> Named
+fn word10(f: u64, b: u64) -> Option<u64>
     ensures { result ≡ keyed 10 f b }
 {
     match f {
@@ -258,23 +251,23 @@ fn word10(f: u64, b: u64) -> Named
         0x686F72697A6F6E74 => ended(b, 0x616C, 24),
         // belowrig, ht
         0x62656C6F77726967 => ended(b, 0x6874, 27),
-        _ => Named::Unknown,
+        _ => None,
     }
 }
 
 // The words of 11 bytes.
-fn word11(f: u64, b: u64) -> Named
+fn word11(f: u64, b: u64) -> Option<u64>
     ensures { result ≡ keyed 11 f b }
 {
     match f {
         // tabprevi, ous
         0x7461627072657669 => ended(b, 0x6F7573, 19),
-        _ => Named::Unknown,
+        _ => None,
     }
 }
 
 // What a word leads to with the words as shipped.
-pub fn lookup(w: &[u8]) -> Named
+pub fn lookup(w: &[u8]) -> Option<u64>
     ensures { result ≡ lookup_of w.now }
 {
     match w.len() {
@@ -289,6 +282,6 @@ pub fn lookup(w: &[u8]) -> Named
         9 => word9(eight(w, 0), number::<1>(w, 8)),
         10 => word10(eight(w, 0), number::<2>(w, 8)),
         11 => word11(eight(w, 0), number::<3>(w, 8)),
-        _ => Named::Unknown,
+        _ => None,
     }
 }

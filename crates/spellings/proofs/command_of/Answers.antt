@@ -21,9 +21,6 @@ returns-then-is_same c = let a = c.args in
     let e : same a.w.now w ≡ true = sym (rw c.part.ensures at c.is_same.ensures) ∙ c.if-is_same.true in
     sym (sym c.loop-i.invariant ∙ ap (λ rs. lookup_in rs a.w.now) c.row_at-r.ensures.row ∙ lookup_here (row w r.command) (rows_at a.rows.now r.stop) a.w.now e)
 
-pub loop-i-smaller : goal.loop-i-smaller
-loop-i-smaller c = omega (arith, c.row_at-r.ensures.past)
-
 pub loop-i-preserved : goal.loop-i-preserved
 loop-i-preserved c = let a = c.args in
     let r = c.row_at-r.result in

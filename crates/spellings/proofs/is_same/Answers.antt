@@ -11,9 +11,6 @@ use Rattle.spellings.proofs.is_same.Goals as goal
 pub returns-then-v-w : goal.returns-then-v-w
 returns-then-v-w c = let a = c.args in sym (same_lengths a.v.now a.w.now c.if-v-w.true)
 
-pub loop-i-init : goal.loop-i-init
-loop-i-init c = (refl, omega arith, c.if-v-w.false)
-
 pub returns-then-v-i : goal.returns-then-v-i
 returns-then-v-i c = let a = c.args in
     let i = c.loop-i.i in

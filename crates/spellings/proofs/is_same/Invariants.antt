@@ -8,6 +8,3 @@ use Rattle.spellings.proofs.is_same.Given as goal
 
 abbrev pub invariant-loop-i : goal.invariant-loop-i
 invariant-loop-i l = (same (drop l.i l.v) (drop l.i l.w) ≡ same l.v l.w) × (l.i ≤ length l.v) × (length l.v ≡ length l.w)
-
-abbrev pub decreases-loop-i : goal.decreases-loop-i
-decreases-loop-i l = length l.v - l.i

@@ -16,9 +16,6 @@ returns-then-r-n c = let a = c.args in
     let r = c.row_at-r.result in
     cc (word_here (row (part_of a.rows.now r.start r.stop) r.command) (rows_at a.rows.now r.stop) a.n (search rules))
 
-pub loop-i-smaller : goal.loop-i-smaller
-loop-i-smaller c = omega (arith, c.row_at-r.ensures.past)
-
 pub loop-i-preserved : goal.loop-i-preserved
 loop-i-preserved c = let a = c.args in
     let r = c.row_at-r.result in

@@ -1,11 +1,8 @@
 -- `tally::refused` meets its contract.
 -- Assumes nothing.
-use Rattle.std.proofs.Common.{◌≡◌, ◌-◌, ◌≤◌}
-use Rattle.tally.specs.Tally.{actions, sum_up_to}
+use Rattle.std.proofs.Common.{◌≡◌}
+use Rattle.tally.specs.Tally.{sum_up_to}
 use Rattle.tally.proofs.refused.Given as goal
 
 abbrev pub invariant-loop-i : goal.invariant-loop-i
-invariant-loop-i l = (l.n ≡ sum_up_to l.t l.i) × (l.i ≤ actions)
-
-abbrev pub decreases-loop-i : goal.decreases-loop-i
-decreases-loop-i l = actions - l.i
+invariant-loop-i l = l.n ≡ sum_up_to l.t l.i

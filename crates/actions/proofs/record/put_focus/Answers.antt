@@ -10,4 +10,4 @@ returns-in-Offset c = rw c.in-Offset.is
 
 pub returns-in-Direction1D : goal.returns-in-Direction1D
 returns-in-Direction1D c = rw c.in-Direction1D.is (within_then 1 13 c.put_small-i-in-Direction1D.ensures
-    (within_then 1 12 c.put_direction-j.ensures (within_then 11 1 c.put_count-k.ensures c.put_bool.ensures)))
+    (within_then 1 12 c.put_case-j.ensures (within_then 11 1 c.put_count-k.ensures c.put_case.ensures)))

@@ -6,4 +6,4 @@ use Rattle.actions.proofs.record.put_resized.Goals as goal
 
 pub returns : goal.returns
 returns c = within_then 1 (14 + (1 + 11)) c.put_small-i.ensures
-    (within_then 14 (1 + 11) c.put_focus-j.ensures (within_then 1 11 c.put_axis-k.ensures c.put_change.ensures))
+    (within_then 14 (1 + 11) c.put_focus-j.ensures (within_then 1 11 c.put_case-k.ensures c.put_change.ensures))

@@ -7,4 +7,4 @@ use Rattle.actions.proofs.record.put_window.Goals as goal
 pub returns : goal.returns
 returns c = within_more _ _ (omega arith) (within_then _ _ c.put_small-h.ensures
     (within_then _ _ c.put_opened-i.ensures (within_then _ _ c.put_any-j.ensures
-    (within_then _ _ c.put_axis-k.ensures (within_then _ _ c.put_side-l.ensures c.put_count.ensures)))))
+    (within_then _ _ c.put_case-k.ensures (within_then _ _ c.put_case-l.ensures c.put_count.ensures)))))

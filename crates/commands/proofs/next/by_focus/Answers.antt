@@ -3,10 +3,10 @@
 use Rattle.commands.specs.Run.{by_focus}
 use Rattle.commands.proofs.next.by_focus.Goals as goal
 
-pub returns-in-To : goal.returns-in-To
+pub returns-in-Ok : goal.returns-in-Ok
 unfolding by_focus
-returns-in-To c = rw c.in-To.is
+returns-in-Ok c = rw c.in-Ok.is
 
-pub returns-in-Refused : goal.returns-in-Refused
+pub returns-in-Err : goal.returns-in-Err
 unfolding by_focus
-returns-in-Refused c = rw c.in-Refused.is
+returns-in-Err c = rw c.in-Err.is

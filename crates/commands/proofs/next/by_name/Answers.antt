@@ -3,10 +3,10 @@
 use Rattle.commands.specs.Run.{by_name}
 use Rattle.commands.proofs.next.by_name.Goals as goal
 
-pub returns-in-Command : goal.returns-in-Command
+pub returns-in-Some : goal.returns-in-Some
 unfolding by_name
-returns-in-Command c = rw (c.by_role.ensures, c.role_of.ensures, c.in-Command.is)
+returns-in-Some c = rw (c.by_role.ensures, c.from.ensures, c.in-Some.is)
 
-pub returns-in-Unknown : goal.returns-in-Unknown
+pub returns-in-None : goal.returns-in-None
 unfolding by_name
-returns-in-Unknown c = rw c.in-Unknown.is
+returns-in-None c = rw c.in-None.is

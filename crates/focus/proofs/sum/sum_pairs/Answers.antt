@@ -11,11 +11,11 @@ use Rattle.scan.specs.Bytes.{is_digit}
 use Rattle.scan.specs.DigitsLaws.{digital}
 use Rattle.ranges.specs.Range.{is_sign}
 use Rattle.ranges.specs.OffsetLaws.{sign_inside, pair_digit}
-use Rattle.focus.specs.declared.sum.Sum.{Sum}
-use Rattle.focus.specs.Sum.{add_is, add_to, sum_at, sum_of}
+use Rattle.focus.specs.Sum.{Sum, add_is, add_to, sum_at, sum_of}
 use Rattle.focus.specs.SumLaws.{sum_value}
 use borrow.Author.Rules.{rules}
 use Rattle.focus.proofs.sum.sum_pairs.Goals as goal
+use Rattle.std.specs.Prelude.{Ok}
 
 pub returns-then-s-lt-MANY : goal.returns-then-s-lt-MANY
 unfolding sum_of
@@ -53,9 +53,9 @@ loop-i-preserved c = let digit : is_digit (get_or c.args.s.now (c.loop-i.i + 1) 
       refl,
       sign,
       l.invariant.3
-          ∙ sum_value (Sum.Is l.d l.n) s l.i _ _ (sign_inside s l.i t) t (pair_digit s l.i (digit) (sign))
+          ∙ sum_value (Ok (l.d, l.n)) s l.i _ _ (sign_inside s l.i t) t (pair_digit s l.i (digit) (sign))
           ∙ ap (λ (b : ℕ). sum_at (add_is l.d l.n (eqb b 0x2B) (get_or s (l.i + 1) 0 - 48)) s (l.i + 2)) (sym l.invariant.1)
-          ∙ ap (λ (a : Sum). sum_at a s (l.i + 2)) (sym c.add_is.ensures ∙ c.in-Is.is),
+          ∙ ap (λ (a : Sum). sum_at a s (l.i + 2)) (sym c.add_is.ensures ∙ c.in-Ok.is),
     )
 
 pub returns : goal.returns

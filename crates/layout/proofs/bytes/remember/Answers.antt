@@ -8,15 +8,6 @@ use Rattle.fields.specs.Field.{then_field, guarded, formed_as, two_field, bytes_
 use Rattle.layout.specs.Layout.{line_place, line_field, remembering}
 use Rattle.layout.proofs.bytes.remember.Goals as goal
 
-pub put_two-requires : goal.put_two-requires
-put_two-requires c = record { n_bound = omega (arith, c.requires.line_len_bound); room = record { fits = omega (arith, c.requires.b_len) } }
-
-pub put_bytes-requires : goal.put_bytes-requires
-put_bytes-requires c = record { fits = omega (arith, c.requires.line_len_bound, c.requires.b_len, put_length c.put_two.ensures) }
-
-pub shape_of-b : goal.shape_of-b
-shape_of-b c = put_length c.put_bytes.ensures ∙ put_length c.put_two.ensures
-
 pub returns : goal.returns
 unfolding remembering line_field formed_as guarded then_field two_field bytes_field
 returns c = c.put_bytes.ensures.store ∙ ap (λ s. sets s line_place c.args.line.now)

@@ -8,9 +8,6 @@ use Rattle.layout.specs.Layout.{line_place}
 use Rattle.layout.specs.SoundLaws.{sound_line}
 use Rattle.layout.proofs.bytes.remembered.Goals as goal
 
-pub overflow_add-two_at : goal.overflow_add-two_at
-overflow_add-two_at c = omega (arith, c.two_at.ensures.bound)
-
 pub returns : goal.returns
 returns c = let b = c.args.b.now in
     c.part.ensures ∙ ap (λ (n : ℕ). part_of b line_place (line_place + n)) c.two_at.ensures.value ∙ sym (sound_line b c.requires)

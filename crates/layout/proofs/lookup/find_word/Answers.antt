@@ -5,9 +5,9 @@ use Rattle.words.specs.Words.{lookup}
 use Rattle.words.specs.LookupLaws.{lookup_append}
 use Rattle.layout.proofs.lookup.find_word.Goals as goal
 
-pub returns-in-Command : goal.returns-in-Command
-returns-in-Command c = rw (lookup_append, sym c.find_added.ensures ∙ c.in-Command.is)
+pub returns-in-Some : goal.returns-in-Some
+returns-in-Some c = rw (lookup_append, sym c.find_added.ensures ∙ c.in-Some.is)
 
-pub returns-in-Unknown : goal.returns-in-Unknown
+pub returns-in-None : goal.returns-in-None
 unfolding lookup
-returns-in-Unknown c = rw (lookup_append, sym c.find_added.ensures ∙ c.in-Unknown.is) c.lookup.ensures
+returns-in-None c = rw (lookup_append, sym c.find_added.ensures ∙ c.in-None.is) c.lookup.ensures

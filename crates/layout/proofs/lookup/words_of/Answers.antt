@@ -7,6 +7,3 @@ use Rattle.layout.proofs.lookup.words_of.Goals as goal
 
 pub returns-then-byte_at-eq0 : goal.returns-then-byte_at-eq0
 returns-then-byte_at-eq0 c = words_none c.args.b.now _ (sym c.byte_at.ensures ∙ c.if-byte_at-eq0.true) c.part.ensures
-
-pub returns : goal.returns
-returns c = ap (λ b. table_of (session_of b)) c.text_again.ensures

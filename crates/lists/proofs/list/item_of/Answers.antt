@@ -6,12 +6,12 @@ use Rattle.lists.proofs.list.item_of.Goals as goal
 
 pub returns-then-j-i : goal.returns-then-j-i
 unfolding item_of
-returns-then-j-i c = rw (c.in-End.is, eq-eqb _ _ c.if-j-i.true)
+returns-then-j-i c = rw (c.in_ok-j.was, eq-eqb _ _ c.if-j-i.true)
 
 pub returns-else-j-i : goal.returns-else-j-i
 unfolding item_of
-returns-else-j-i c = rw (c.in-End.is, ne_eqb _ _ c.if-j-i.false)
+returns-else-j-i c = rw (c.in_ok-j.was, ne_eqb _ _ c.if-j-i.false)
 
-pub returns-in-Bad : goal.returns-in-Bad
+pub returns-in_err-j : goal.returns-in_err-j
 unfolding item_of
-returns-in-Bad c = rw c.in-Bad.is
+returns-in_err-j c = rw (c.from_residual.ensures, c.in_err-j.was)

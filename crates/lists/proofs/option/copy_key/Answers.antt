@@ -11,13 +11,13 @@ pub returns-in_default : goal.returns-in_default
 returns-in_default c = let e = rw c.in_default.is at c.emit_at.ensures in record { put = writing_end (key_none e) c.loop-b.invariant.0; left = after_none e ∙ sym c.loop-b.invariant.1 }
 
 pub returns-then-b-eq61 : goal.returns-then-b-eq61
-returns-then-b-eq61 c = let e = (rw c.in-Byte.is at c.emit_at.ensures).0 in record { put = writing_end (key_cut e c.if-b-eq61.true) c.loop-b.invariant.0; left = after_cut e c.if-b-eq61.true ∙ sym c.loop-b.invariant.1 }
+returns-then-b-eq61 c = let e = (rw c.in-Some.is at c.emit_at.ensures).0 in record { put = writing_end (key_cut e c.if-b-eq61.true) c.loop-b.invariant.0; left = after_cut e c.if-b-eq61.true ∙ sym c.loop-b.invariant.1 }
 
 pub bounds-store-n : goal.bounds-store-n
-bounds-store-n c = let e = (rw c.in-Byte.is at c.emit_at.ensures).0 in
+bounds-store-n c = let e = (rw c.in-Some.is at c.emit_at.ensures).0 in
     let w = c.loop-b.invariant.0 in
     omega (arith, w.count, w.size, c.requires.fits, ap length (key_more e c.if-b-eq61.false))
 
 pub loop-b-preserved : goal.loop-b-preserved
-loop-b-preserved c = let e = (rw c.in-Byte.is at c.emit_at.ensures).0 in
+loop-b-preserved c = let e = (rw c.in-Some.is at c.emit_at.ensures).0 in
     (writing_byte _ _ (key_more e c.if-b-eq61.false) c.loop-b.invariant.0, c.loop-b.invariant.1 ∙ after_more e c.if-b-eq61.false)

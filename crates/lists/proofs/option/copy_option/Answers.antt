@@ -10,25 +10,25 @@ returns-in_default c =
     record { kind = both.0; written = both.1 }
 
 pub copy_key-key-requires : goal.copy_key-key-requires
-copy_key-key-requires c = (room_key c.item_text-t.ensures.bytes c.requires (rw c.in-Key.is at c.flag_start.ensures))
+copy_key-key-requires c = (room_key c.item_text-t.ensures.bytes c.requires (rw c.in-Some.is at c.flag_start.ensures))
 
 pub returns-in_default-emit_at : goal.returns-in_default-emit_at
 returns-in_default-emit_at c =
-    let f = rw c.in-Key.is at c.flag_start.ensures in
+    let f = rw c.in-Some.is at c.flag_start.ensures in
     let e = rw c.in_default-emit_at.is at c.emit_at.ensures in
     let both = seen_flag c.item_text-t.ensures.bytes c.requires f c.copy_key-key.ensures.put (sym c.copy_key-key.ensures.left ∙ e) in
     record { kind = both.0; written = both.1 }
 
 pub copy_text-e-requires : goal.copy_text-e-requires
 copy_text-e-requires c =
-    let f = rw c.in-Key.is at c.flag_start.ensures in
-    let e = rw c.in-Byte.is at c.emit_at.ensures in
+    let f = rw c.in-Some.is at c.flag_start.ensures in
+    let e = rw c.in-Some-emit_at.is at c.emit_at.ensures in
     (room_value c.item_text-t.ensures.bytes c.requires f c.copy_key-key.ensures.put (sym c.copy_key-key.ensures.left ∙ e.0))
 
 pub returns : goal.returns
 returns c =
-    let f = rw c.in-Key.is at c.flag_start.ensures in
-    let e = rw c.in-Byte.is at c.emit_at.ensures in
+    let f = rw c.in-Some.is at c.flag_start.ensures in
+    let e = rw c.in-Some-emit_at.is at c.emit_at.ensures in
     let both = seen_value c.item_text-t.ensures.bytes c.requires f c.copy_key-key.ensures.put (sym c.copy_key-key.ensures.left ∙ e.0)
     c.copy_text-e.ensures in
     record { kind = both.0; written = both.1 }

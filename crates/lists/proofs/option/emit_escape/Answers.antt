@@ -6,11 +6,11 @@ use Rattle.lists.specs.Text.{escape_of}
 use Rattle.lists.specs.TextLaws.{escape_inside, bytes_escape, bytes_bad}
 use Rattle.lists.proofs.option.emit_escape.Goals as goal
 
-pub returns-in-Byte : goal.returns-in-Byte
-returns-in-Byte c = let e = sym (c.escape_of.ensures ∙ ap (escape_of c.args.quoted) c.byte_at.ensures) ∙ c.in-Byte.is in
+pub returns : goal.returns
+returns c = let e = sym (c.escape_of.ensures ∙ ap (escape_of c.args.quoted) c.byte_at.ensures) ∙ c.in_ok-c.was in
     let h = escape_inside _ c.args.s.now _ _ e in
     (bytes_escape _ _ _ c.requires _ e, omega arith, omega arith)
 
-pub returns-in-Bad : goal.returns-in-Bad
-returns-in-Bad c = let e = sym (c.escape_of.ensures ∙ ap (escape_of c.args.quoted) c.byte_at.ensures) ∙ c.in-Bad.is in
-    bytes_bad _ _ _ c.requires e
+pub returns-in_err-c : goal.returns-in_err-c
+returns-in_err-c c = let e = sym (c.escape_of.ensures ∙ ap (escape_of c.args.quoted) c.byte_at.ensures) ∙ c.in_err-c.was in
+    rw c.from_residual.ensures (bytes_bad _ _ _ c.requires e)

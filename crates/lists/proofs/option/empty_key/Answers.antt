@@ -5,9 +5,9 @@ use Rattle.lists.specs.Lists.{keyless}
 use Rattle.lists.specs.OptionLaws.{keyless_flag, keyless_plain}
 use Rattle.lists.proofs.option.empty_key.Goals as goal
 
-pub returns-in-Key : goal.returns-in-Key
-returns-in-Key c = c.key_is_empty.ensures ∙ sym (keyless_flag (rw c.in-Key.is at c.flag_start.ensures))
+pub returns-in-Some : goal.returns-in-Some
+returns-in-Some c = c.key_is_empty.ensures ∙ sym (keyless_flag (rw c.in-Some.is at c.flag_start.ensures))
     ∙ ap keyless c.item_text-t.ensures.bytes
 
-pub returns-in-Positional : goal.returns-in-Positional
-returns-in-Positional c = sym (ap keyless (sym c.item_text-t.ensures.bytes) ∙ keyless_plain _ (rw c.in-Positional.is at c.flag_start.ensures))
+pub returns-in-None : goal.returns-in-None
+returns-in-None c = sym (ap keyless (sym c.item_text-t.ensures.bytes) ∙ keyless_plain _ (rw c.in-None.is at c.flag_start.ensures))

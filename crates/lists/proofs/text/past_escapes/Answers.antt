@@ -7,13 +7,13 @@ use Rattle.lists.proofs.text.past_escapes.Goals as goal
 
 pub overflow_add-n : goal.overflow_add-n
 overflow_add-n c =
-    let e = sym c.escape_of.ensures ∙ c.in-Byte.is in
+    let e = sym c.escape_of.ensures ∙ c.in-Some.is in
     let passed = escaped_on _ _ _ _ _ _ c.loop-i.invariant c.if-s-i-ne92.false e in
     omega (arith, passed.count, bytes_length c.args.quoted c.args.s.now c.args.at)
 
 pub loop-i-preserved : goal.loop-i-preserved
 loop-i-preserved c =
-    let e = sym c.escape_of.ensures ∙ c.in-Byte.is in
+    let e = sym c.escape_of.ensures ∙ c.in-Some.is in
     escaped_on _ _ _ _ _ _ c.loop-i.invariant c.if-s-i-ne92.false e
 
 pub returns : goal.returns

@@ -9,12 +9,12 @@ use Rattle.lists.proofs.text.put_escapes.Goals as goal
 
 pub bounds-store-n : goal.bounds-store-n
 bounds-store-n c =
-    let escaped = bytes_escape c.args.quoted c.args.s.now c.loop-i.i c.if-s-i-ne92.false _ (sym c.escape_of.ensures ∙ c.in-Byte.is) in
+    let escaped = bytes_escape c.args.quoted c.args.s.now c.loop-i.i c.if-s-i-ne92.false _ (sym c.escape_of.ensures ∙ c.in-Some.is) in
     let w = c.loop-i.invariant.0 in
     omega (arith, w.count, w.size, c.requires.fits, ap length escaped)
 
 pub loop-i-preserved : goal.loop-i-preserved
-loop-i-preserved c = (writing_byte _ _ (bytes_escape c.args.quoted c.args.s.now c.loop-i.i c.if-s-i-ne92.false _ (sym c.escape_of.ensures ∙ c.in-Byte.is)) c.loop-i.invariant.0, omega (arith, c.loop-i.invariant.1))
+loop-i-preserved c = (writing_byte _ _ (bytes_escape c.args.quoted c.args.s.now c.loop-i.i c.if-s-i-ne92.false _ (sym c.escape_of.ensures ∙ c.in-Some.is)) c.loop-i.invariant.0, omega (arith, c.loop-i.invariant.1))
 
 pub returns : goal.returns
 returns c = record {

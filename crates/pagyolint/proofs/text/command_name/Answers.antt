@@ -9,7 +9,7 @@ use Rattle.pagyolint.proofs.text.command_name.Goals as goal
 pub returns-then-c : goal.returns-then-c
 unfolding name_no name_count name_store
 returns-then-c c = let over = lt-leb _ _ c.if-c.true in
-    record { refusal = c.from.ensures ∙ sym (rw over); count = sym (rw over); store = sym (rw over) }
+    record { refusal = sym (rw over); count = sym (rw over); store = sym (rw over) }
 
 pub returns : goal.returns
 unfolding name_of name_no name_count name_store

@@ -11,7 +11,7 @@ use Rattle.pagyolint.proofs.text.copy.Goals as goal
 pub returns-then-store-text : goal.returns-then-store-text
 unfolding copy_no copy_count copy_store
 returns-then-store-text c = let short = lt-leb _ _ c.if-store-text.true in
-    record { refusal = c.from.ensures ∙ sym (rw short); count = sym (rw short); store = sym (rw short) }
+    record { refusal = sym (rw short); count = sym (rw short); store = sym (rw short) }
 
 pub returns : goal.returns
 unfolding copy_no copy_count copy_store

@@ -8,6 +8,3 @@ use Rattle.placing.proofs.insert.before.Given as goal
 
 abbrev pub invariant-loop-k : goal.invariant-loop-k
 invariant-loop-k l = (l.k ≤ length l.w) × (drop l.k (part_of l.b l.q (l.q + length l.w)) ≡ drop l.k l.w)
-
-abbrev pub decreases-loop-k : goal.decreases-loop-k
-decreases-loop-k l = l.k

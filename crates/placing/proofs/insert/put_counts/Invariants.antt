@@ -9,6 +9,3 @@ use Rattle.placing.proofs.insert.put_counts.Given as goal
 
 abbrev pub invariant-loop-k : goal.invariant-loop-k
 invariant-loop-k l = Writing l.initial.b l.at (counts_from word_limit 1 (l.m ∷ [])) l.b (l.at + l.k) (counts_from (word_limit - l.k) (l.k + 1) (l.m ∷ [])) × (l.k ≤ word_limit)
-
-abbrev pub decreases-loop-k : goal.decreases-loop-k
-decreases-loop-k l = word_limit - l.k

@@ -5,5 +5,5 @@ use Rattle.placing.proofs.insert.put_first.Goals as goal
 
 pub returns : goal.returns
 returns c = let a = c.args in
-    first_made a.at a.most a.w.now a.command a.b.now c.put_counts.new.b c.put_counts.ensures
+    first_made a.at a.most a.w.now.bytes.now a.command a.b.now c.put_counts.new.b c.put_counts.ensures
     c.put_bytes.new.store c.put_bytes.ensures.store

@@ -12,6 +12,10 @@ pub bounds-b-at-2 : goal.bounds-b-at-2
 bounds-b-at-2 c = let a = c.args in
     omega (arith, (framed_told a.at a.most a.b.now c.requires.framed).size, c.requires.short)
 
+pub invariant_of-end : goal.invariant_of-end
+invariant_of-end c = let a = c.args in
+    record { whole = (framed_told a.at a.most a.b.now c.requires.framed).size }
+
 pub overflow_add-b-2 : goal.overflow_add-b-2
 overflow_add-b-2 c = let a = c.args in
     let p = c.requires in
@@ -32,10 +36,10 @@ pub put_in-requires : goal.put_in-requires
 put_in-requires c = let a = c.args in
     let p = c.requires in
     let f = framed_told a.at a.most a.b.now p.framed in
-    let e = c.end_of-end.ensures in
+    let e = c.end-end.ensures in
     let l = made_length a.at a.most a.row a.place a.w.now a.command a.b.now c.put_one.new.b c.put_one.ensures in record { from_le_to = omega (arith, e, p.greatest); w_in_bounds = omega (arith, e, p.short, p.room, f.size, lengths_sum a.at a.most a.b.now f p.some, l) }
 
 pub returns : goal.returns
 returns c = let a = c.args in
     new_made a.at a.most a.row a.place a.w.now a.command a.b.now c.put_one.new.b c.put_one.ensures
-    c.end_of-end.result c.end_of-end.ensures c.put_in.new.b c.put_in.ensures c.requires
+    c.end-end.result c.end-end.ensures c.put_in.new.b c.put_in.ensures c.requires

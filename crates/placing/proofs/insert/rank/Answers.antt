@@ -11,7 +11,7 @@ pub returns-then-not-before : goal.returns-then-not-before
 returns-then-not-before c = let a = c.args in
     let l = c.loop-j in
     let h = c.loop-j-test.true in
-    let f : l.p + length a.w.now ≤ length a.b.now = omega (arith, c.requires.w_in_bounds, l.invariant.1, rows_fit l.j a.c (length a.w.now) h) in
+    let f : l.p + length a.w.now ≤ length a.b.now = omega (arith, c.requires, l.invariant.1, rows_fit l.j a.c (length a.w.now) h) in
     let e = rank_stop a.b.now l.p a.w.now f a.c l.j h (sym c.before-in-loop-j.ensures ∙ c.if-not-before.true) in
     omega (arith, l.invariant.2, e)
 
@@ -19,7 +19,7 @@ pub loop-j-preserved : goal.loop-j-preserved
 loop-j-preserved c = let a = c.args in
     let l = c.loop-j in
     let h = c.loop-j-test.true in
-    let f : l.p + length a.w.now ≤ length a.b.now = omega (arith, c.requires.w_in_bounds, l.invariant.1, rows_fit l.j a.c (length a.w.now) h) in
+    let f : l.p + length a.w.now ≤ length a.b.now = omega (arith, c.requires, l.invariant.1, rows_fit l.j a.c (length a.w.now) h) in
     let e = rank_on a.b.now l.p a.w.now f a.c l.j h (sym c.before-in-loop-j.ensures ∙ c.if-not-before.false) in
     (omega arith, omega (arith, l.invariant.1), omega (arith, l.invariant.2, e))
 

@@ -8,6 +8,3 @@ use Rattle.placing.proofs.insert.rank.Given as goal
 
 abbrev pub invariant-loop-j : goal.invariant-loop-j
 invariant-loop-j l = (l.j ≤ l.c) × (l.p ≡ l.q + l.j * length l.w) × (rank l.c l.w (drop l.q l.b) ≡ l.j + rank (l.c - l.j) l.w (drop l.p l.b))
-
-abbrev pub decreases-loop-j : goal.decreases-loop-j
-decreases-loop-j l = l.c - l.j

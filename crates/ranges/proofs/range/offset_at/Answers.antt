@@ -7,6 +7,7 @@ use lib.ListN.{get_or}
 use Rattle.scan.specs.Bytes.{is_digit}
 use Rattle.scan.specs.DigitsLaws.{digital, digit_inside, digits_none, digits_one}
 use Rattle.ranges.specs.Offset.{offset_of, offset_at}
+use Rattle.std.proofs.lemmas.Result.{err_from_is_err_and}
 use Rattle.ranges.proofs.range.offset_at.Goals as goal
 
 pub returns-then-not-is_digit : goal.returns-then-not-is_digit
@@ -33,15 +34,16 @@ returns-then-not-is_digit-2 c = let first : is_digit (get_or c.args.s.now c.args
     (digits_one _ _ first
     (sym (ap is_digit c.byte_at-c.ensures) ∙ sym c.is_digit-2.ensures ∙ c.if-not-is_digit-2.true)))
 
-pub returns-in-Value : goal.returns-in-Value
+pub returns-in_err-n : goal.returns-in_err-n
 unfolding offset_at offset_of
-returns-in-Value c = rw c.byte_at.ensures (ap (offset_of _ _) (sym (sym c.many_digits.ensures ∙ c.in-Value.is)))
+returns-in_err-n c =
+    let p = err_from_is_err_and c.from_residual.result c.from_residual.ensures.1 in
+    rw (p.1, p.2, ← c.in_err-n.ensures)
 
-pub returns-in-TooLarge : goal.returns-in-TooLarge
+pub returns-in-Some : goal.returns-in-Some
 unfolding offset_at offset_of
-returns-in-TooLarge c = ap (offset_of _ _) (sym (sym c.many_digits.ensures ∙ c.in-TooLarge.is))
+returns-in-Some c = rw (c.byte_at.ensures, ← c.in_ok-n.ensures, c.in-Some.is)
 
-pub returns-in-Absent : goal.returns-in-Absent
+pub returns-in-None : goal.returns-in-None
 unfolding offset_at offset_of
-returns-in-Absent c = rw c.byte_at-b.ensures
-    (ap (offset_of _ _) (sym (sym c.many_digits.ensures ∙ c.in-Absent.is)))
+returns-in-None c = rw (c.byte_at-b.ensures, ← c.in_ok-n.ensures, c.in-None.is)

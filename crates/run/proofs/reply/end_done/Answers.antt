@@ -13,17 +13,14 @@ use Rattle.run.specs.Reply.{done_at}
 use Rattle.run.specs.ReplyLaws.{end_answer, end_store}
 use Rattle.run.proofs.reply.end_done.Goals as goal
 
-pub put_action-count-requires : goal.put_action-count-requires
-put_action-count-requires c = (rw c.part.ensures (omega (arith, c.requires, part_short c.args.line.now c.args.a c.args.e)))
-
-pub returns-in-Act : goal.returns-in-Act
+pub returns-in-Ok : goal.returns-in-Ok
 unfolding done_at out_no out_bytes record_of
-returns-in-Act c = let o = Out.act (paper_of (part_of c.args.line.now c.args.a c.args.e) c.in-Act.y) in
+returns-in-Ok c = let o = Out.act (paper_of (part_of c.args.line.now c.args.a c.args.e) c.in-Ok.y) in
     let n = part_short c.args.line.now c.args.a c.args.e in
     let w = rw c.part.ensures at c.put_action-count.ensures in
-    rw c.in-Act.is
+    rw c.in-Ok.is
     (record { answer = end_answer o _ w.put; store = end_store o w.put (omega (arith, w.most, c.requires, n)); size = put_length w.put })
 
-pub returns-in-Refused : goal.returns-in-Refused
+pub returns-in-Err : goal.returns-in-Err
 unfolding done_at store_after at_front out_bytes
-returns-in-Refused c = rw c.in-Refused.is (record { answer = c.end_refused.ensures; store = refl; size = refl })
+returns-in-Err c = rw c.in-Err.is (record { answer = c.end_refused.ensures; store = refl; size = refl })

@@ -7,7 +7,7 @@ use Rattle.run.proofs.run.decide.Goals as goal
 
 pub returns-then-a-e : goal.returns-then-a-e
 unfolding decide_of by_reading
-returns-then-a-e c = rw (sym c.parse_cmd_descr.ensures ∙ c.in-Command.is, eq-eqb _ _ c.if-a-e.true)
+returns-then-a-e c = rw (sym c.parse_cmd_descr.ensures ∙ c.in-Ok.is, eq-eqb _ _ c.if-a-e.true)
 
 pub returns-else-a-e : goal.returns-else-a-e
 unfolding decide_of by_reading
@@ -15,14 +15,10 @@ returns-else-a-e c = rw (
   c.by_name.ensures,
   c.find_word.ensures,
   c.part.ensures,
-  sym c.parse_cmd_descr.ensures ∙ c.in-Command.is,
+  sym c.parse_cmd_descr.ensures ∙ c.in-Ok.is,
   ne_eqb _ _ c.if-a-e.false,
 )
 
-pub returns-in-Failed : goal.returns-in-Failed
+pub returns-in-Err : goal.returns-in-Err
 unfolding decide_of by_reading
-returns-in-Failed c = rw (sym c.parse_cmd_descr.ensures ∙ c.in-Failed.is)
-
-pub returns-in-TooLarge : goal.returns-in-TooLarge
-unfolding decide_of by_reading
-returns-in-TooLarge c = rw (sym c.parse_cmd_descr.ensures ∙ c.in-TooLarge.is)
+returns-in-Err c = rw (sym c.parse_cmd_descr.ensures ∙ c.in-Err.is)

@@ -21,27 +21,12 @@ loop-store-init c = (
       rw (c.fresh-x.ensures, c.skip_spaces-from.ensures) (held_start _ _ _ (rw c.skip_spaces-from.ensures at e)),
 )
 
-pub overflow_add-m : goal.overflow_add-m
-overflow_add-m c = omega (arith, c.loop-store.invariant.1)
-
-pub decide-requires : goal.decide-requires
-decide-requires c = rw c.part-s.ensures c.loop-store.invariant.1.flat
-
-pub end_nothing-requires : goal.end_nothing-requires
-end_nothing-requires c = rw c.loop-store.invariant.0 (omega (arith, c.requires))
-
-pub shape_of-store-in-Empty : goal.shape_of-store-in-Empty
-shape_of-store-in-Empty c = c.end_nothing.ensures.size ∙ ap length c.loop-store.invariant.0
-
 pub returns-in-Empty : goal.returns-in-Empty
 returns-in-Empty c =
     let w = c.end_nothing.ensures in
     let e = ended (w.answer, (w.store, w.size)) c.loop-store.invariant.0
     (held_empty _ _ _ _ _ _ _ c.loop-store.invariant.1 (sym (c.decide.ensures ∙ ap (decide_of _) c.part-s.ensures) ∙ c.in-Empty.is)) in
     record { answer = e.0; store = e.1.0; size = e.1.1 }
-
-pub shape_of-store-in-Refused : goal.shape_of-store-in-Refused
-shape_of-store-in-Refused c = ap length c.loop-store.invariant.0
 
 pub returns-in-Refused : goal.returns-in-Refused
 returns-in-Refused c =
@@ -59,12 +44,6 @@ overflow_add-from-in-Unknown c =
     let fits : length c.args.line.now < 2 ^ 64 = omega arith in
     let inside : In c.in-Unknown.a (c.loop-store.to - c.loop-store.from) c.in-Unknown.e = held_next _ _ _ _ _ _ _ c.loop-store.invariant.1 _ (sym (c.decide.ensures ∙ ap (decide_of _) c.part-s.ensures) ∙ c.in-Unknown.is) in
     omega (arith, c.loop-store.invariant.1)
-
-pub end_unknown-requires : goal.end_unknown-requires
-end_unknown-requires c = rw c.loop-store.invariant.0 c.requires
-
-pub shape_of-store-in-Unknown : goal.shape_of-store-in-Unknown
-shape_of-store-in-Unknown c = c.end_unknown.ensures.size ∙ ap length c.loop-store.invariant.0
 
 pub returns-in-Unknown : goal.returns-in-Unknown
 returns-in-Unknown c =
@@ -84,12 +63,6 @@ overflow_add-e c =
     let fits : length c.args.line.now < 2 ^ 64 = omega arith in
     let inside : In c.in-Runs.d.argument (c.loop-store.to - c.loop-store.from) c.in-Runs.d.stop = held_next _ _ _ _ _ _ _ c.loop-store.invariant.1 _ (sym (c.decide.ensures ∙ ap (decide_of _) c.part-s.ensures) ∙ c.in-Runs.is) in
     omega (arith, c.loop-store.invariant.1)
-
-pub end_done-requires : goal.end_done-requires
-end_done-requires c = (rw c.loop-store.invariant.0 c.requires)
-
-pub shape_of-store-in-Runs : goal.shape_of-store-in-Runs
-shape_of-store-in-Runs c = c.end_done.ensures.size ∙ ap length c.loop-store.invariant.0
 
 pub returns-in-Runs : goal.returns-in-Runs
 returns-in-Runs c =

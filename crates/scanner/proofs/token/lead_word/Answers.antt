@@ -11,7 +11,7 @@ returns-in_default c = rw (c.lead_left.ensures, sym c.parse_cmd_name.ensures ∙
 pub returns : goal.returns
 unfolding lead_word
 returns c = rw (
-  sym c.parse_cmd_name.ensures ∙ c.in-Word.is,
+  sym c.parse_cmd_name.ensures ∙ c.in-Some.is,
   ← c.skip_byte-f.ensures,
   ← c.skip_spaces-g.ensures,
 )

@@ -7,7 +7,7 @@ use Rattle.session.proofs.lent.fresh_in.Goals as goal
 
 pub returns-then-b-ne-SESSION : goal.returns-then-b-ne-SESSION
 unfolding fresh_no fresh_bytes
-returns-then-b-ne-SESSION c = record { answer = c.from.ensures ∙ sym (rw (ne_eqb _ _ c.if-b-ne-SESSION.true)); written = rw (ne_eqb _ _ c.if-b-ne-SESSION.true) }
+returns-then-b-ne-SESSION c = record { answer = sym (rw (ne_eqb _ _ c.if-b-ne-SESSION.true)); written = rw (ne_eqb _ _ c.if-b-ne-SESSION.true) }
 
 pub returns : goal.returns
 unfolding fresh_no fresh_bytes

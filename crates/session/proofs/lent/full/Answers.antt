@@ -10,10 +10,10 @@ use Rattle.layout.specs.Layout.{added_field, session_field, session_of}
 use Rattle.layout.specs.SoundLaws.{sound_count}
 use Rattle.session.proofs.lent.full.Goals as goal
 
-pub returns-in-Command : goal.returns-in-Command
+pub returns-in-Some : goal.returns-in-Some
 unfolding is_full session_of session_field formed_as then_field added_field
-returns-in-Command c = rw (sym c.find.ensures ∙ c.in-Command.is)
+returns-in-Some c = rw (sym c.find.ensures ∙ c.in-Some.is)
 
-pub returns-in-Unknown : goal.returns-in-Unknown
+pub returns-in-None : goal.returns-in-None
 unfolding is_full session_of session_field formed_as then_field added_field
-returns-in-Unknown c = rw (sym c.find.ensures ∙ c.in-Unknown.is) (ap (λ (n : ℕ). leb alias_limit n) (c.byte_at.ensures ∙ sym (sound_count c.args.b.now c.requires)))
+returns-in-None c = rw (sym c.find.ensures ∙ c.in-None.is) (ap (λ (n : ℕ). leb alias_limit n) (c.byte_at.ensures ∙ sym (sound_count c.args.b.now c.requires)))

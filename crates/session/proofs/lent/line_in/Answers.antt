@@ -12,9 +12,6 @@ returns-then-not-sound c = let a = c.args in
     let x = line_99 a.b.now a.line.now (length a.store.now) (sym c.sound.ensures ∙ c.if-not-sound.true) in
     record { answer = c.turned.ensures ∙ ap reply (sym x.0); store = nothing_written _ _ ∙ ap (λ v. store_after v.out a.store.now) (sym x.0); session = sym x.1 }
 
-pub line_on-requires : goal.line_on-requires
-line_on-requires c = (sym c.sound.ensures ∙ c.if-not-sound.false)
-
 pub returns : goal.returns
 returns c = let a = c.args in
     let x = line_on_lem a.b.now a.line.now (length a.store.now) (sym c.sound.ensures ∙ c.if-not-sound.false) in

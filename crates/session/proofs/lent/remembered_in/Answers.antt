@@ -12,16 +12,13 @@ use Rattle.session.proofs.lent.remembered_in.Goals as goal
 pub returns-then-not-sound : goal.returns-then-not-sound
 returns-then-not-sound c = let a = c.args in
     let x = read_back_99 a.b.now a.store.now (sym c.sound.ensures ∙ c.if-not-sound.true) in
-    record { refusal = c.from.ensures ∙ x.0; count = x.1.0; store = x.1.1 }
-
-pub remembered-line-requires : goal.remembered-line-requires
-remembered-line-requires c = sym c.sound.ensures ∙ c.if-not-sound.false
+    record { refusal = x.0; count = x.1.0; store = x.1.1 }
 
 pub returns-then-store-line : goal.returns-then-store-line
 returns-then-store-line c = let a = c.args in
     let taken = sym c.sound.ensures ∙ c.if-not-sound.false in
     let x = read_back_short a.b.now a.store.now taken (lt-leb _ _ (rw c.remembered-line.ensures at c.if-store-line.true)) in
-    record { refusal = c.from-then-store-line.ensures ∙ x.0; count = x.1.0; store = x.1.1 }
+    record { refusal = x.0; count = x.1.0; store = x.1.1 }
 
 pub returns : goal.returns
 returns c = let a = c.args in

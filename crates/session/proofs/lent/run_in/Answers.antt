@@ -11,11 +11,3 @@ use Rattle.session.proofs.lent.run_in.Goals as goal
 
 pub run-reply-requires : goal.run-reply-requires
 run-reply-requires c = (omega (arith, line_room_long c.args.line.now, c.requires.line_in_bounds))
-
-pub returns : goal.returns
-returns c = let a = c.args in
-    let e = c.words_of.ensures in record {
-      answer = c.run-reply.ensures.answer ∙ ap (λ t. reply (line_from t fresh_context a.line.now)) e;
-      store = c.run-reply.ensures.store ∙ ap (λ t. store_after (line_from t fresh_context a.line.now).out a.store.now) e;
-      session = c.remember.ensures;
-    }

@@ -21,7 +21,7 @@ returns-in-Ok-clause-word c = λ q.
 
 pub returns-in-Err : goal.returns-in-Err
 returns-in-Err c = record {
-  placed = c.nowhere_in.ensures;
+  placed = tt;
   bad = λ q. absurd (none _ Refusal.NotUtf8 _ c.in-Err.is (c.try_from.ensures ∙ ap refusal_of q ∙ refusal_back Refusal.NotUtf8));
   word = λ q. absurd (none _ Refusal.UnknownWord _ c.in-Err.is (c.try_from.ensures ∙ ap refusal_of q ∙ refusal_back Refusal.UnknownWord));
 }

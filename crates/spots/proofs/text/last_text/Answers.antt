@@ -23,8 +23,3 @@ pub loop-left-preserved : goal.loop-left-preserved
 loop-left-preserved c =
     let on = walk_on _ _ _ _ _ c.loop-left.invariant c.loop-left-test.true in
     rw (c.run_end.ensures, c.lead_of-l.ensures, c.part-s.ensures) on
-
-pub returns : goal.returns
-returns c =
-    let w = c.loop-left.invariant in
-    record { order = w.order; inside = w.inside; last = walk_last _ _ _ _ _ w c.loop-left-test.false }

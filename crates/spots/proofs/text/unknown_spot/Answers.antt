@@ -1,6 +1,6 @@
 -- `spots::text::unknown_spot` meets its contract.
 -- Assumes nothing.
-use Rattle.std.proofs.Common.{sym, refl, ap, ◌∙◌, arith}
+use Rattle.std.proofs.Common.{sym, ap, ◌∙◌, arith}
 use Rattle.scanner.specs.Tokens.{lead_of}
 use Rattle.spots.specs.TextLaws.{word_inside, last_unknown}
 use Rattle.spots.proofs.text.unknown_spot.Goals as goal
@@ -26,5 +26,5 @@ returns c =
       word =
           λ table w k.
           let p = rw (sym (c.lead_of-l.ensures ∙ l)) at (last_unknown _ _ _ _ t.last table w k) in
-          rw (c.spot_in.ensures.same (omega (arith, p.0)) p.1.0) (refl, p.1.1);
+          rw (c.spot_in.ensures.same (omega (arith, p.0)) p.1.0) p.1.1;
     }

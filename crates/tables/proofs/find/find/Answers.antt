@@ -1,20 +1,21 @@
 -- `find::find` meets its contract.
 -- Assumes nothing.
-use Rattle.std.proofs.Common.{arith}
-use Rattle.tables.specs.Seat.{Seated, found_nowhere, found_row, seated_few, seated_size, seated_look}
+use Rattle.std.proofs.Common.{arith, ◌∙◌}
+use Rattle.tables.specs.Seat.{Found, seated_few, seated_size, seated_look}
 use Rattle.tables.proofs.find.find.Goals as goal
 
-pub overflow_add-result-in-Row-2 : goal.overflow_add-result-in-Row-2
-overflow_add-result-in-Row-2 c = let row_here : let a = c.args in Seated a.at a.most a.b.now a.w.now c.in-Row.n c.in-Row.p = found_row _ _ _ _ _ c.seat_of.ensures _ _ c.in-Row.is in
-    omega (arith, seated_few row_here)
+pub returns-in_err-n : goal.returns-in_err-n
+unfolding Found
+returns-in_err-n c = c.from_residual.ensures ∙ c.in_err-n.ensures
+
+pub overflow_add-result-3 : goal.overflow_add-result-3
+unfolding Found
+overflow_add-result-3 c = omega (arith, seated_few c.in_ok-n.ensures)
 
 pub bounds-b-at : goal.bounds-b-at
-bounds-b-at c = let row_here : let a = c.args in Seated a.at a.most a.b.now a.w.now c.in-Row.n c.in-Row.p = found_row _ _ _ _ _ c.seat_of.ensures _ _ c.in-Row.is in
-    let r = row_here in omega (arith, seated_few r, seated_size r)
+unfolding Found
+bounds-b-at c = omega (arith, seated_few c.in_ok-n.ensures, seated_size c.in_ok-n.ensures)
 
-pub returns-in-Nowhere : goal.returns-in-Nowhere
-returns-in-Nowhere c = found_nowhere _ _ _ _ _ c.seat_of.ensures c.in-Nowhere.is
-
-pub returns-in-Row : goal.returns-in-Row
-returns-in-Row c = let row_here : let a = c.args in Seated a.at a.most a.b.now a.w.now c.in-Row.n c.in-Row.p = found_row _ _ _ _ _ c.seat_of.ensures _ _ c.in-Row.is in
-    seated_look row_here _ (omega arith)
+pub returns : goal.returns
+unfolding Found
+returns c = seated_look c.in_ok-n.ensures _ (omega arith)

@@ -6,6 +6,3 @@ use Rattle.tables.proofs.find.number.Given as goal
 
 abbrev pub invariant-loop-k : goal.invariant-loop-k
 invariant-loop-k l = (l.k ≤ length l.w) × ((l.x ≡ number_of (drop l.k l.w)) × (l.x < 2 ^ (8 * (length l.w - l.k))))
-
-abbrev pub decreases-loop-k : goal.decreases-loop-k
-decreases-loop-k l = l.k

@@ -6,7 +6,4 @@ use Rattle.tables.proofs.find.seek.Given as goal
 
 abbrev pub invariant-loop-j : goal.invariant-loop-j
 invariant-loop-j l =
-    (l.j ≤ l.c) × ((l.q + length l.w ≤ l.e) × ((l.e + (l.c - l.j) * length l.w ≡ l.q + length l.w + l.c * length l.w) × (l.j + seek_of (l.c - l.j) l.w (drop (l.e - length l.w) l.b) ≡ seek_of l.c l.w (drop l.q l.b))))
-
-abbrev pub decreases-loop-j : goal.decreases-loop-j
-decreases-loop-j l = l.c - l.j
+    (l.j ≤ l.c) × ((l.q + length l.w.bytes.now ≤ l.e) × ((l.e + (l.c - l.j) * length l.w.bytes.now ≡ l.q + length l.w.bytes.now + l.c * length l.w.bytes.now) × (l.j + seek_of (l.c - l.j) l.w.bytes.now (drop (l.e - length l.w.bytes.now) l.b) ≡ seek_of l.c l.w.bytes.now (drop l.q l.b))))

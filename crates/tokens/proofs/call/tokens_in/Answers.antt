@@ -13,23 +13,20 @@ use Rattle.tokens.proofs.call.tokens_in.Goals as goal
 
 pub returns-then-not-sound : goal.returns-then-not-sound
 returns-then-not-sound c = let a = c.args in
-    let r = c.refused.ensures in
     let x = tokens_99 a.b.now a.line.now a.store.now (sym c.sound.ensures ∙ c.if-not-sound.true) in
-    record { refusal = r.refusal ∙ x.0; count = r.count ∙ x.1; store = x.2 }
+    record { refusal = x.0; count = x.1; store = x.2 }
 
 pub returns-then-line-gt-LINE : goal.returns-then-line-gt-LINE
 returns-then-line-gt-LINE c = let a = c.args in
-    let r = c.refused-then-line-gt-LINE.ensures in
     let taken = sym c.sound.ensures ∙ c.if-not-sound.false in
     let x = tokens_long a.b.now a.line.now a.store.now taken (lt-leb _ _ c.if-line-gt-LINE.true) in
-    record { refusal = r.refusal ∙ x.0; count = r.count ∙ x.1; store = x.2 }
+    record { refusal = x.0; count = x.1; store = x.2 }
 
 pub returns-then-store-line : goal.returns-then-store-line
 returns-then-store-line c = let a = c.args in
-    let r = c.refused-then-store-line.ensures in
     let taken = sym c.sound.ensures ∙ c.if-not-sound.false in
     let x = tokens_short a.b.now a.line.now a.store.now taken (le-leb _ _ c.if-line-gt-LINE.false) (lt-leb _ _ c.if-store-line.true) in
-    record { refusal = r.refusal ∙ x.0; count = r.count ∙ x.1; store = x.2 }
+    record { refusal = x.0; count = x.1; store = x.2 }
 
 pub put_line-n-requires : goal.put_line-n-requires
 put_line-n-requires c = let a = c.args in

@@ -13,15 +13,15 @@ use Rattle.tokens.proofs.text.names_prefix.Goals as goal
 pub returns-then-w-eq0 : goal.returns-then-w-eq0
 returns-then-w-eq0 c = sym (unnamed _ _ c.if-w-eq0.true)
 
-pub returns-in-Command : goal.returns-in-Command
-returns-in-Command c = let a = c.args in
+pub returns-in-Some : goal.returns-in-Some
+returns-in-Some c = let a = c.args in
     let some : 0 < length a.w.now = omega (arith, c.if-w-eq0.false) in
     let looked = role_looked_up (table_of (session_of a.words.now)) a.w.now some in
     c.is_prefix.ensures
-    ∙ ap is_prefix (c.role_of.ensures ∙ ap role_at (sym c.in-Command.is ∙ c.command_of_word.ensures) ∙ sym looked)
+    ∙ ap is_prefix (c.from.ensures ∙ ap role_at (sym c.in-Some.is ∙ c.command_of_word.ensures) ∙ sym looked)
 
-pub returns-in-Unknown : goal.returns-in-Unknown
-returns-in-Unknown c = let a = c.args in
+pub returns-in-None : goal.returns-in-None
+returns-in-None c = let a = c.args in
     let some : 0 < length a.w.now = omega (arith, c.if-w-eq0.false) in
     let looked = role_looked_up (table_of (session_of a.words.now)) a.w.now some in
-    ap is_prefix (ap role_at (sym c.in-Unknown.is ∙ c.command_of_word.ensures) ∙ sym looked)
+    ap is_prefix (ap role_at (sym c.in-None.is ∙ c.command_of_word.ensures) ∙ sym looked)

@@ -9,15 +9,6 @@ use Rattle.scanner.specs.LeadLaws.{lead_inside}
 use Rattle.tokens.specs.ThroughLaws.{text_length, telling_start, telling_inside, telling_room, telling_past, telling_on, telling_last, telling_end}
 use Rattle.tokens.proofs.text.put_texts.Goals as goal
 
-pub is_prefixed-again-requires : goal.is_prefixed-again-requires
-is_prefixed-again-requires c = rw c.part-2.ensures (rw c.part.ensures at c.lead_of-lead.ensures)
-
-pub loop-again-init : goal.loop-again-init
-loop-again-init c = let a = c.args in
-    telling_start (table_of (session_of a.words.now)) a.line.now a.e c.requires.e_in_bounds a.store.now _ _
-    (rw c.part.ensures at c.lead_of-lead.ensures)
-    (rw c.part-2.ensures at c.is_prefixed-again.ensures)
-
 pub put_tokens-at-requires : goal.put_tokens-at-requires
 put_tokens-at-requires c = let a = c.args in
     let t = c.loop-again.invariant in
@@ -38,9 +29,6 @@ overflow_add-from c = let a = c.args in
     let t = c.loop-again.invariant in
     rw t.led (omega (arith, telling_inside (table_of (session_of a.words.now)) a.line.now a.e c.requires.e_in_bounds t, c.requires.e_in_bounds, c.requires.line_len_bound))
 
-pub is_prefixed-again-requires-in-loop-again : goal.is_prefixed-again-requires-in-loop-again
-is_prefixed-again-requires-in-loop-again c = rw c.part-in-loop-again-3.ensures (rw c.part-in-loop-again-2.ensures at c.lead_of-lead-in-loop-again.ensures)
-
 pub loop-again-smaller : goal.loop-again-smaller
 loop-again-smaller c = let a = c.args in
     let t = c.loop-again.invariant in
@@ -56,9 +44,6 @@ loop-again-preserved c = let a = c.args in
     let p = rw t.led at (rw c.part-in-loop-again.ensures at c.put_tokens-at.ensures) in
     rw t.led (telling_on (table_of (session_of a.words.now)) a.line.now a.e c.requires.e_in_bounds t c.loop-again-test.true _ _ p l q)
 
-pub overflow_sub-e : goal.overflow_sub-e
-overflow_sub-e c = omega (arith, c.loop-again.invariant.within)
-
 pub put_tokens-requires : goal.put_tokens-requires
 put_tokens-requires c = let a = c.args in
     let t = c.loop-again.invariant in
@@ -73,9 +58,6 @@ put_tokens-requires c = let a = c.args in
       o_len_bound = omega (arith, size, t.within, inside, c.requires.line_len_bound);
       room = room;
     }
-
-pub shape_of-store : goal.shape_of-store
-shape_of-store c = put_length c.put_tokens.ensures ∙ c.loop-again.invariant.writing.size
 
 pub returns : goal.returns
 returns c = let a = c.args in

@@ -10,9 +10,6 @@ use Rattle.store.specs.Splice.{writing_start, writing_room, writing_put, writing
 use Rattle.tokens.specs.ThroughLaws.{left_on, left_end, token_in_lem}
 use Rattle.tokens.proofs.text.put_tokens.Goals as goal
 
-pub loop-i-init : goal.loop-i-init
-loop-i-init c = writing_start _ _ _
-
 pub put_token-j-requires : goal.put_token-j-requires
 put_token-j-requires c = let a = c.args in
     let i = c.loop-i.i in
@@ -39,9 +36,6 @@ loop-i-preserved c = let a = c.args in
     let inside : i < length a.s.now = omega (arith, c.loop-i-test.true, c.requires.to_in_bounds) in
     let is : c.line_token-t.result ≡ token_at a.s.now i = c.line_token-t.ensures ∙ token_in_lem a.s.now a.lead i c.requires.lead_value in
     rw is (writing_put _ (rw is at c.put_token-j.ensures) (left_on a.w a.o a.s.now a.to i c.loop-i-test.true inside) c.loop-i.invariant)
-
-pub shape_of-store : goal.shape_of-store
-shape_of-store c = c.loop-i.invariant.size
 
 pub returns : goal.returns
 returns c = let a = c.args in

@@ -1,8 +1,0 @@
--- `console::program::put_maker` meets its contract.
--- Assumes nothing.
-use Rattle.texts.specs.BehindLaws.{behind_then}
-use Rattle.std.proofs.Common.{rules}
-use Rattle.console.proofs.program.put_maker.Goals as goal
-
-pub returns : goal.returns
-returns c = search (rules, behind_then)

@@ -1,9 +1,0 @@
--- `orders::prefixes::prefixes_of` is safe and ends.
--- Assumes nothing.
-use Rattle.orders.proofs.prefixes.prefixes_of.Given as goal
-
-abbrev pub invariant-loop-turns : goal.invariant-loop-turns
-invariant-loop-turns l = Unit {0}
-
-abbrev pub decreases-loop-turns : goal.decreases-loop-turns
-decreases-loop-turns l = l.turns

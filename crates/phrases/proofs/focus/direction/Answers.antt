@@ -1,8 +1,0 @@
--- `phrases::focus::direction` meets its contract.
--- Assumes nothing.
-use borrow.Author.Rules.{rules}
-use Rattle.texts.specs.BehindLaws.{behind_then}
-use Rattle.phrases.proofs.focus.direction.Goals as goal
-
-pub returns : goal.returns
-returns c = search (rules, behind_then)

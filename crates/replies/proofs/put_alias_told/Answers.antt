@@ -1,9 +1,0 @@
--- `replies::put_alias_told` meets its contract.
--- Assumes nothing.
-use Rattle.texts.specs.BehindLaws.{behind_then}
-use borrow.Author.Rules.{rules}
-use borrow.Author.Rules.{rules}
-use Rattle.replies.proofs.put_alias_told.Goals as goal
-
-pub returns : goal.returns
-returns c = search (rules, behind_then)

@@ -1,9 +1,0 @@
--- `replies::put_refused_line` meets its contract.
--- Assumes nothing.
-use Rattle.texts.specs.BehindLaws.{behind_then}
-use borrow.Author.Rules.{rules}
-use borrow.Author.Rules.{rules}
-use Rattle.replies.proofs.put_refused_line.Goals as goal
-
-pub returns : goal.returns
-returns c = search (rules, behind_then)

@@ -1,8 +1,0 @@
--- `tally::put_others` meets its contract.
--- Assumes nothing.
-use Rattle.texts.specs.BehindLaws.{behind_then}
-use Rattle.std.proofs.Common.{rules}
-use Rattle.tally.proofs.put_others.Goals as goal
-
-pub returns : goal.returns
-returns c = search (rules, behind_then)
