@@ -15,7 +15,6 @@ use Rattle.context.specs.declared.context.CommandContext.{CommandContext}
 use Rattle.commands.specs.Run.{role_named, trim}
 use Rattle.commands.specs.declared.next.Role.{Role}
 use Rattle.demands.specs.Statement.{sets_tab, sets_by, or_set, read_sets, sets, context_from, last_tab, last_axis, last_side, lasts}
-use Rattle.actions.specs.declared.action.FocusChange.{FocusChange}
 use Rattle.actions.specs.declared.action.Axis.{Axis}
 use Rattle.actions.specs.declared.action.Side.{Side}
 

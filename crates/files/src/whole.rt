@@ -4,7 +4,7 @@ use super::tell::{tell, tell_changed, tell_failed};
 use console::told::Errors;
 use reports::kind::{Kind, kind_of};
 use reports::text::{count_ends, first_line};
-use scan::decimal::{Decimal, digits};
+use scan::decimal::digits;
 use scan::part::{byte_at, part};
 use std::fs::File;
 use std::io::{Seek, SeekFrom};

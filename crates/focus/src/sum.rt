@@ -4,7 +4,7 @@ ghost use Rattle.focus.specs.Sum.{add_same, apart as apart_of, add_is, sum_at, s
 
 use limits::MOST;
 use limits::refusal::Refusal;
-use ranges::range::{MoveDir1D, Offset, is_sign, offset_at};
+use ranges::range::{MoveDir1D, is_sign, offset_at};
 use scan::decimal::is_digit;
 use scan::part::byte_at;
 

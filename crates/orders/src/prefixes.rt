@@ -1,6 +1,6 @@
 // The prefixes of a line, as the readings find them on a fresh session.
 use commands::next::{Change, Next, by_name};
-use reading::line::{CommandDescription, CommandRead, parse};
+use reading::line::{CommandDescription, parse};
 use scan::part::part;
 use words::words::lookup;
 

@@ -8,7 +8,7 @@ ghost use Rattle.scanner.specs.Tokens.{lead_left, lead_word, lead_of, pieces, up
 use blocks::run::skip_spaces;
 use lists::list::item_of;
 use lists::text::text_end;
-use ranges::range::{RangeRead, parse_any_range};
+use ranges::range::parse_any_range;
 use reading::line::{parse_cmd_name, skip_byte};
 use scan::classes::{Class, Colon, Space, Text};
 use scan::part::byte_at;

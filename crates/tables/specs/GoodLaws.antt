@@ -84,7 +84,7 @@ module _ (at most : ℕ) (b : List ℕ) where
   ordered = in_order [] (lengths_at b at 1) (drop (words_at at most) b)
 
   abbrev all_words : Bool
-  all_words = list_all (is_word) (part_of b (words_at at most) words_end)
+  all_words = list_all is_word (part_of b (words_at at most) words_end)
 
   abbrev all_commands : Bool
   all_commands = list_all is_command (part_of b (commands_at at) (commands_at at + byte_at b at))
@@ -138,11 +138,11 @@ module _ (at most : ℕ) (b : List ℕ) (is : framed at most b ≡ true) (words 
 
       -- and the words at w
       pub test_words : (k w : ℕ) → k ≡ commands_at at → w ≡ words_at at most → list_all is_command (part_of b k (k + byte_at b at)) ≡ true →
-          (table at most).test b ≡ list_all (is_word) (part_of b w e)
+          (table at most).test b ≡ list_all is_word (part_of b w e)
       test_words k w p q h =
           test_is
           ∙ ap (λ t. ordered at most b && all_words at most b && t) (commands_at_lem k p ∙ h)
           ∙ and-true (ordered at most b && all_words at most b)
           ∙ ap (λ t. t && all_words at most b) are_ordered.0
-          ∙ ap (λ (i : ℕ). list_all (is_word) (part_of b i (words_end at most b))) (sym q)
-          ∙ ap (λ (i : ℕ). list_all (is_word) (part_of b w i)) (sym are_ordered.1)
+          ∙ ap (λ (i : ℕ). list_all is_word (part_of b i (words_end at most b))) (sym q)
+          ∙ ap (λ (i : ℕ). list_all is_word (part_of b w i)) (sym are_ordered.1)

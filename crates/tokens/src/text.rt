@@ -1,7 +1,6 @@
 // The tokens of a text, and those of the texts of a line, written to a lent store that has room for them.
 ghost use Rattle.std.specs.Prelude.{◌≡◌, ◌+◌, ◌≤◌, suc, length};
 ghost use Rattle.limits.specs.Limits.{line_limit};
-ghost use Rattle.scan.specs.Scan.{part_of};
 ghost use Rattle.store.specs.Splice.{Put, Room};
 ghost use Rattle.scanner.specs.Tokens.{lead_of, tokens_at};
 ghost use Rattle.words.specs.Words.{lookup_in};

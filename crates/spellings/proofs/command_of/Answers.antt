@@ -2,7 +2,6 @@
 -- Assumes nothing.
 use mathlib.Core.Path.{◌≡◌, sym, ◌∙◌, ap}
 use mathlib.Core.Bool.{true, false}
-use native.Mathlib.Omega.{arith}
 use Rattle.scan.specs.Scan.{part_of}
 use Rattle.words.specs.Words.{same, lookup_in}
 use Rattle.words.specs.LookupLaws.{lookup_here, lookup_past}

@@ -1,6 +1,5 @@
 -- `spellings::word_of` meets its contract.
 -- Assumes nothing.
-use native.Mathlib.Omega.{arith}
 use Rattle.scan.specs.Scan.{part_of}
 use Rattle.spellings.specs.SpellingsLaws.{word_none, word_here, word_past}
 use Rattle.spellings.specs.RowsLaws.{rows_start, rows_end_lem}

@@ -1,8 +1,6 @@
 -- `bytes::clear` meets its contract.
 -- Assumes nothing.
-use lib.ListN.{length, set, length-set}
-use lib.Seq.{sets, length-sets}
-use Rattle.fields.specs.Field.{two}
+use lib.ListN.{set}
 use mathlib.Core.Path.{sym, ◌∙◌, ap}
 use Rattle.layout.specs.Layout.{added_place}
 use Rattle.layout.specs.SoundLaws.{fresh_is}

@@ -1,9 +1,7 @@
 -- `bytes::remember` meets its contract.
 -- Assumes nothing.
 use mathlib.Core.Path.{◌∙◌, ap}
-use native.Mathlib.Omega.{arith}
 use lib.Seq.{sets}
-use Rattle.store.specs.Splice.{put_length}
 use Rattle.fields.specs.Field.{then_field, guarded, formed_as, two_field, bytes_field}
 use Rattle.layout.specs.Layout.{line_place, line_field, remembering}
 use Rattle.layout.proofs.bytes.remember.Goals as goal

@@ -2,7 +2,6 @@
 -- Assumes nothing.
 use mathlib.Core.Path.{sym, ◌∙◌, ap}
 use Prim.Native.Nat.{ℕ, ◌+◌}
-use native.Mathlib.Omega.{arith}
 use Rattle.scan.specs.Scan.{part_of}
 use Rattle.layout.specs.Layout.{line_place}
 use Rattle.layout.specs.SoundLaws.{sound_line}

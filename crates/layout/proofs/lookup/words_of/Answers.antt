@@ -1,7 +1,6 @@
 -- `lookup::words_of` meets its contract.
 -- Assumes nothing.
-use mathlib.Core.Path.{sym, ◌∙◌, ap}
-use Rattle.layout.specs.Layout.{session_of, table_of}
+use mathlib.Core.Path.{sym, ◌∙◌}
 use Rattle.layout.specs.SoundLaws.{words_none}
 use Rattle.layout.proofs.lookup.words_of.Goals as goal
 

@@ -1,6 +1,6 @@
 -- `lent::fresh_in` meets its contract.
 -- Assumes nothing.
-use mathlib.Core.Path.{sym, ◌∙◌}
+use mathlib.Core.Path.{sym}
 use borrow.Author.Tests.{eq-eqb, ne_eqb}
 use Rattle.session.specs.Lent.{fresh_no, fresh_bytes}
 use Rattle.session.proofs.lent.fresh_in.Goals as goal

@@ -1,8 +1,7 @@
 -- `spots::bytes::utf8_end` meets its contract. The invariant: of more bytes than `i` from the front on, none are UTF-8.
 -- Assumes nothing.
-use Rattle.std.proofs.Common.{◌≡◌, ◌+◌, ◌-◌, sym, ap, ◌∙◌, arith}
-use Rattle.utf8.specs.Utf8.{is_utf8}
-use Rattle.spots.specs.Utf8Laws.{bad_less, none_good}
+use Rattle.std.proofs.Common.{◌≡◌, ◌-◌, arith}
+use Rattle.spots.specs.Utf8Laws.{none_good}
 use Rattle.spots.proofs.bytes.utf8_end.Goals as goal
 
 pub returns : goal.returns

@@ -1,7 +1,7 @@
 -- `spots::text::last_text` meets its contract. The invariant: the walk over the readings that are not left.
 -- Assumes nothing.
 use Rattle.std.proofs.Common.{arith}
-use Rattle.spots.specs.TextLaws.{walk_start, walk_on, walk_last}
+use Rattle.spots.specs.TextLaws.{walk_start, walk_on}
 use Rattle.spots.proofs.text.last_text.Goals as goal
 
 pub loop-left-init : goal.loop-left-init

@@ -1,6 +1,6 @@
 -- `bytes::all_numbered` meets its contract.
 -- Assumes nothing.
-use Rattle.std.proofs.Common.{◌∙◌, arith}
+use Rattle.std.proofs.Common.{arith}
 use Rattle.tables.specs.AllLaws.{numbered_more}
 use Rattle.tables.proofs.bytes.all_numbered.Goals as goal
 

@@ -1,12 +1,11 @@
 -- `text::put_texts` meets its contract. The invariant: the texts before the one at `from` are written, and what is left is that of the texts from there on.
 -- Assumes nothing.
-use mathlib.Core.Path.{◌∙◌, refl}
+use mathlib.Core.Path.{refl}
 use native.Mathlib.Omega.{arith}
 use Rattle.scan.specs.Scan.{part_of}
-use Rattle.store.specs.Splice.{put_length}
 use Rattle.layout.specs.Layout.{session_of, table_of}
 use Rattle.scanner.specs.LeadLaws.{lead_inside}
-use Rattle.tokens.specs.ThroughLaws.{text_length, telling_start, telling_inside, telling_room, telling_past, telling_on, telling_last, telling_end}
+use Rattle.tokens.specs.ThroughLaws.{text_length, telling_inside, telling_room, telling_past, telling_on, telling_last, telling_end}
 use Rattle.tokens.proofs.text.put_texts.Goals as goal
 
 pub put_tokens-at-requires : goal.put_tokens-at-requires

@@ -6,7 +6,7 @@ use lib.ListN.{length}
 use native.Mathlib.Omega.{arith}
 use Rattle.scanner.specs.Tokens.{token_at}
 use Rattle.scanner.specs.TokensLaws.{token_good}
-use Rattle.store.specs.Splice.{writing_start, writing_room, writing_put, writing_end}
+use Rattle.store.specs.Splice.{writing_room, writing_put, writing_end}
 use Rattle.tokens.specs.ThroughLaws.{left_on, left_end, token_in_lem}
 use Rattle.tokens.proofs.text.put_tokens.Goals as goal
 
