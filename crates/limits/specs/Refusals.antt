@@ -32,9 +32,9 @@ abbrev pub among : ℕ → List Refusal → Result Refusal NoRefusal
 among n [] = Err (record { number = n })
 among n (x ∷ xs) = cond {A = Result Refusal NoRefusal} (eqb n (refusal_no x)) (Ok x) (among n xs)
 
--- the refusal that a number stands for: none for 0, which a call answers that was not refused
+-- the refusal that a number stands for: none for 0, which a call answers that was not refused, whatever numbers the refusals have
 unfoldable pub refusal_of : ℕ → Result Refusal NoRefusal
-refusal_of n = among n refusals
+refusal_of n = cond {A = Result Refusal NoRefusal} (eqb n 0) (Err (record { number = 0 })) (among n refusals)
 
 -- the place of a refusal among all
 abbrev pub place_of : Refusal → ℕ

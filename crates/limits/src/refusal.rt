@@ -1,5 +1,5 @@
 // Refusals: why a call is turned down, and the number that it then answers.
-ghost use Rattle.std.specs.Prelude.{◌≡◌, ◌<◌, ℕ, length};
+ghost use Rattle.std.specs.Prelude.{◌≡◌, ◌<◌, ℕ, IfErr, length};
 ghost use Rattle.limits.specs.Refusals.{refusal_no, refusals, refusal_of, place_of, number_of};
 
 // Each refusal and its number.
@@ -62,7 +62,8 @@ impl From<Refusal> for u64 {
 
 // The number that a call over C answers: a refusal's, or 0 where it is not refused.
 pub fn number_of(r: Result<(), Refusal>) -> u64
-    ensures { result ≡ number_of r }
+    ensures number { result ≡ number_of r }
+    ensures refused { IfErr r (λ x. 0 < result) }
 {
     match r {
         Ok(()) => 0,
@@ -84,6 +85,7 @@ impl TryFrom<u64> for Refusal {
     #[tactic(auto, unfolding(crate::specs::Refusals::refusal_of))]
     fn try_from(n: u64) -> Result<Refusal, NoRefusal> {
         match n {
+            0 => Err(NoRefusal { number: 0 }),
             1 => Ok(Refusal::LineTooLong),
             2 => Ok(Refusal::NotUtf8),
             3 => Ok(Refusal::ParseFailed),
