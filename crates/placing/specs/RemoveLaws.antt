@@ -2,7 +2,7 @@
 -- Assumes nothing.
 use Rattle.std.specs.Prelude.{◌≡◌, Bool, true, false, cond, List, [], ◌∷◌, ◌++◌, ℕ, zero, suc, ◌+◌, ◌-◌, ◌<◌, ◌≤◌, eqb, length, take, drop, get_or, set, Some, None}
 use Rattle.std.proofs.Math.Path.{refl, sym, ap}
-use Rattle.std.proofs.Common.{◌∙◌, arith, length-append, length-drop, length-set, drop-drop, get_or-take, get_or-drop, eqb-true, ne_eqb}
+use Rattle.std.proofs.Common.{◌∙◌, arith, length-append, length-drop, length-set, take-suc, drop-drop, get_or-take, get_or-drop, eqb-true, ne_eqb}
 use Rattle.std.proofs.lemmas.List.Edits.{sets}
 use Rattle.std.proofs.Math.Seq.{length-sets}
 use Rattle.std.proofs.lemmas.Bool.{eqb-false}
@@ -10,7 +10,7 @@ use Rattle.limits.specs.Limits.{word_limit}
 use Rattle.scan.specs.Scan.{byte_at, part_of}
 use Rattle.scan.specs.PartLaws.{part_length}
 use Rattle.words.specs.Words.{Row, same, lookup_in}
-use Rattle.fields.specs.SetsLaws.{part_behind}
+use Rattle.fields.specs.SetsLaws.{byte_behind, part_behind}
 use Rattle.words.specs.LookupLaws.{lookup_here, lookup_past}
 use Rattle.tables.specs.Table.{lengths_of, commands_of, words_of, count_of, counts_from, lengths_from, sum, cut, commands_at, words_at, table_end, framed, table}
 use Rattle.placing.specs.Change.{remove, has_word, removing}
@@ -22,6 +22,30 @@ use Rattle.placing.specs.AfterLaws.{remove_here, remove_past}
 use Rattle.placing.specs.StoredLaws.{count_here, count_there, counts_there, lengths_append, commands_append, words_append}
 use Rattle.tables.specs.FindLaws.{Standing, row_at, standing_rows, standing_look}
 use Rattle.tables.specs.Seat.{Seated, seated_look}
+use Rattle.store.specs.Splice.{sets_append}
+
+-- bytes that are moved down -----------------------------------------------------------------------------------------------------------------------
+
+part_more : (s : List ℕ) (a i : ℕ) → a ≤ i → i < length s → part_of s a (i + 1) ≡ part_of s a i ++ (byte_at s i ∷ [])
+part_more s a i h k =
+    let n : i + 1 - a ≡ suc (i - a) = omega arith in
+    let q : a + (i - a) ≡ i = omega arith in
+    ap (λ (j : ℕ). take j (drop a s)) n
+    ∙ take-suc (drop a s) (i - a) 0 (omega (arith, length-drop a s))
+    ∙ ap (λ (x : ℕ). part_of s a i ++ (x ∷ [])) (get_or-drop a s (i - a) 0 ∙ ap (byte_at s) q)
+
+-- one more of them, from the first up
+pub moved_down : (s b : List ℕ) (from i k : ℕ) → k ≤ from → from ≤ i → i < length s → b ≡ sets s (from - k) (part_of s from i) →
+    set b (i - k) (byte_at b i) ≡ sets s (from - k) (part_of s from (i + 1))
+moved_down s b from i k h j l e =
+    let v = part_of s from i in
+    let n : from - k + length v ≡ i - k = omega (arith, part_length s from i (omega arith)) in
+    let x : byte_at b i ≡ byte_at s i = ap (λ r. byte_at r i) e ∙ byte_behind s (from - k) v i (omega arith) in
+    ap (set b (i - k)) x
+    ∙ ap (λ r. set r (i - k) (byte_at s i)) e
+    ∙ ap (λ (m : ℕ). set (sets s (from - k) v) m (byte_at s i)) (sym n)
+    ∙ sets_append s (from - k) v (byte_at s i ∷ [])
+    ∙ ap (sets s (from - k)) (sym (part_more s from i j l))
 
 -- one of several rows taken out: the number and the count of its length are one less, the commands behind i up to o are moved down by one,
 -- the words behind p up to e by its length

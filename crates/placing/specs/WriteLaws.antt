@@ -8,7 +8,7 @@ use Rattle.std.proofs.lemmas.List.{set_comm, set_split}
 use Rattle.scan.specs.Scan.{byte_at, part_of}
 use Rattle.scan.specs.RunLaws.{drop_step}
 use Rattle.scan.specs.PartLaws.{part_length, part_part}
-use Rattle.fields.specs.SetsLaws.{part_behind, sets_part}
+use Rattle.fields.specs.SetsLaws.{byte_before, part_behind, sets_part}
 use Rattle.store.specs.Splice.{sets_append, sets_part as sets_whole}
 use Rattle.std.specs.List.{copy_within}
 
@@ -114,6 +114,21 @@ pub part_step : (s : List ℕ) (i e : ℕ) → i < e → i < length s → part_o
 part_step s i e h k =
     let n : e - i ≡ suc (e - (i + 1)) = omega arith in
     ap (take (e - i)) (drop_step s i k) ∙ ap (λ (j : ℕ). take j (byte_at s i ∷ drop (i + 1) s)) n
+
+-- one more of them, from the last down
+pub moved_turn : (s b : List ℕ) (k i to : ℕ) → 0 < i → i ≤ to → to ≤ length s → b ≡ sets s (i + k) (part_of s i to) →
+    set b (i - 1 + k) (byte_at b (i - 1)) ≡ sets s (i - 1 + k) (part_of s (i - 1) to)
+moved_turn s b k i to h j m e =
+    let v = part_of s i to in
+    let n : i - 1 + 1 ≡ i = omega arith in
+    let f : i + k ≡ suc (i - 1 + k) = omega arith in
+    let x : byte_at b (i - 1) ≡ byte_at s (i - 1) = ap (λ r. byte_at r (i - 1)) e ∙ byte_before s (i + k) v (i - 1) (omega arith) in
+    let p : part_of s (i - 1) to ≡ byte_at s (i - 1) ∷ v = part_step s (i - 1) to (omega arith) (omega arith) ∙ ap (λ (q : ℕ). byte_at s (i - 1) ∷ part_of s q to) n in
+    ap (set b (i - 1 + k)) x
+    ∙ ap (λ r. set r (i - 1 + k) (byte_at s (i - 1))) e
+    ∙ set_sets s (i - 1 + k) (byte_at s (i - 1)) (i + k) v (omega arith)
+    ∙ ap (λ (q : ℕ). sets (set s (i - 1 + k) (byte_at s (i - 1))) q v) f
+    ∙ ap (sets s (i - 1 + k)) (sym p)
 
 -- a part that is moved, as the library's `copy_within` leaves it
 pub copied_sets : (s : List ℕ) (a e at : ℕ) → a ≤ e → e ≤ length s → at + (e - a) ≤ length s → copy_within s a e at ≡ sets s at (part_of s a e)

@@ -73,7 +73,10 @@ fn move_up(b: &mut [u8], from: usize, to: usize, k: usize)
     requires k_in_bounds { to + k ≤ length b.old }
     ensures { b.new ≡ sets b.old (from + k) (part_of b.old from to) }
 {
-    b.copy_within(from..to, from + k);
+    // Byte by byte: `copy_within` is a call of memmove, which callers in C would then have to have.
+    for i in (from..to).rev() {
+        b[i + k] = b[i];
+    }
 }
 
 // Writes x at `from`, and behind it the bytes from there up to `to`.

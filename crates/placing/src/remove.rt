@@ -18,7 +18,10 @@ fn move_down(b: &mut [u8], from: usize, to: usize, k: usize)
     requires to_in_bounds { to ≤ length b.old }
     ensures { b.new ≡ sets b.old (from - k) (part_of b.old from to) }
 {
-    b.copy_within(from..to, from - k);
+    // Byte by byte: `copy_within` is a call of memmove, which callers in C would then have to have.
+    for i in from..to {
+        b[i - k] = b[i];
+    }
 }
 
 // Takes one of several rows out: its command stands at i, the last one's ends at `o`; its word of m bytes stands at p, the last one ends at e.

@@ -10,9 +10,11 @@ pub fn put_bytes(store: &mut [u8], at: usize, src: &[u8]) -> usize
     requires { Room store.old at src.now }
     ensures { Put store.old store.new at result src.now }
 {
-    let end = at + src.len();
-    store[at..end].copy_from_slice(src);
-    end
+    // Byte by byte: `copy_from_slice` is a call of memmove, which callers in C would then have to have.
+    for j in 0..src.len() {
+        store[at + j] = src[j];
+    }
+    at + src.len()
 }
 
 // Writes a number in groups of seven bits.
