@@ -1,5 +1,5 @@
 // A page: text that is written into a lent buffer, from its start on. What does not fit is left out.
-ghost use Rattle.std.specs.Prelude.{◌≡◌, [], ◌∷◌, ◌<◌, ◌≤◌, length, replicate};
+ghost use Rattle.std.specs.Prelude.{◌≡◌, [], ◌∷◌, ◌*◌, ◌<◌, ◌≤◌, length, replicate};
 ghost use Rattle.texts.specs.Written.{Adds, blank, cut, with};
 
 use scan::part::byte_at;
@@ -27,6 +27,17 @@ fn digit(n: u8) -> u8
     requires { n < 16 }
 {
     if n < 10 { b'0' + n } else { b'a' - 10 + n }
+}
+
+// Bytes as two hexadecimal digits each, in lower case.
+fn set_hex(out: &mut [u8], s: &[u8])
+    requires { length out.old ≡ 2 * length s.now }
+    ensures { length out.new ≡ length out.old }
+{
+    for i in 0..s.len() {
+        out[2 * i] = digit(s[i] / 16);
+        out[2 * i + 1] = digit(s[i] % 16);
+    }
 }
 
 // Whether a byte, behind 0xC2, ends a control character.
@@ -114,22 +125,15 @@ impl<'a> Page<'a> {
         self.text(&digits[..k]);
     }
 
-    // A byte as two hexadecimal digits, in lower case.
-    fn two_digits(&mut self, b: u8)
-        ensures { Adds self.old self.new }
-    {
-        self.byte(digit(b / 16));
-        self.byte(digit(b % 16));
-    }
-
-    // Bytes as two digits each. No byte has its first digit alone.
+    // Bytes as two digits each. No byte has its first digit alone. The digits are written at once, where there is room for all: a test for
+    // each of them costs ten times as much.
     pub fn hex(&mut self, s: &[u8])
         ensures { Adds self.old self.new }
     {
-        let n = s.len().min(self.room() / 2);
-        for b in &s[..n] {
-            self.two_digits(*b);
-        }
+        let n = s.len().min((self.out.len() - self.end) / 2);
+        let to = self.end + 2 * n;
+        set_hex(&mut self.out[self.end..to], &s[..n]);
+        self.end = to;
     }
 
     // A byte by its number, behind a text that ends in a brace.
