@@ -60,7 +60,9 @@ fn end_focus(s: &[u8], e: RangeEnding, wrap: bool) -> Focused
     }
 }
 
+// It stands apart: put into each handler that calls it, it makes `run` too large to be put where a line is run, which costs every line more.
 #[tactic(auto, unfolding(crate::specs::Focus::range_focus))]
+#[inline(never)]
 pub fn range_to_fc(s: &[u8], g: RangeSpec, wrap: bool) -> Focused
     ensures { result ≡ range_focus s.now g wrap }
 {
