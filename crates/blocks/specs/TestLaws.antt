@@ -36,11 +36,15 @@ pub plain_all : (s : List ℕ) → (list_all no_blank s && list_all no_sign s) �
 plain_all [] = refl
 plain_all (b ∷ s) = and_swap (no_blank b) (list_all no_blank s) (no_sign b) (list_all no_sign s) ∙ rw (plain_both b, plain_all s)
 
--- a space stands within the text
-pub space_inside : (s : List ℕ) (i : ℕ) → is_space (get_or s i 0) ≡ true → i < length s
-unfolding is_space
-space_inside s i e = go (dec_lt i (length s))
+-- a byte that passes a test which 0 fails stands within the text
+pub inside : (p : ℕ → Bool) (s : List ℕ) (i : ℕ) → p 0 ≡ false → p (get_or s i 0) ≡ true → i < length s
+inside p s i z e = go (dec_lt i (length s))
   where
     go : Dec (i < length s) → i < length s
     go (yes h) = h
-    go (no h) = absurd (false≢true (ap is_space (sym (get_or-eq_default s 0 (omega arith))) ∙ e))
+    go (no h) = absurd (false≢true (sym z ∙ ap p (sym (get_or-eq_default s 0 (omega arith))) ∙ e))
+
+-- a space does
+pub space_inside : (s : List ℕ) (i : ℕ) → is_space (get_or s i 0) ≡ true → i < length s
+unfolding is_space
+space_inside s i e = inside is_space s i refl e

@@ -1,5 +1,5 @@
 // Classes by comparisons, which vector instructions have: no test branches, and none reads the table. So a block of bytes is put to them.
-ghost use Rattle.std.specs.Prelude.{◌≡◌, ℕ, Bool, true};
+ghost use Rattle.std.specs.Prelude.{◌≡◌, ℕ, Bool, true, ◌||◌, eqb};
 ghost use Rattle.scan.specs.Bytes.{is_space, is_letter, is_text, is_plain, is_quoted};
 ghost use Rattle.std.specs.List.{list_all};
 ghost use Rattle.blocks.specs.Test.{no_blank, no_sign};
@@ -44,6 +44,22 @@ impl Class for Text {
     }
 }
 
+// Whether a byte is a space or 0x0A.
+#[inline]
+pub fn is_blank(b: u8) -> bool
+    ensures { result ≡ (eqb b 0x09 || eqb b 0x0A || eqb b 0x20) }
+{
+    (b == 0x09) | (b == 0x0A) | (b == 0x20)
+}
+
+// Whether a byte is `|`, `"` or the backslash.
+#[inline]
+pub fn is_sign(b: u8) -> bool
+    ensures { result ≡ (eqb b 0x7C || eqb b 0x22 || eqb b 0x5C) }
+{
+    (b == 0x7C) | (b == 0x22) | (b == 0x5C)
+}
+
 // All but 0x09, 0x0A and space, at which plain text ends.
 struct NoBlank;
 
@@ -51,7 +67,7 @@ impl Class for NoBlank {
     ghost rule = { no_blank };
 
     fn has(b: u8) -> bool {
-        !((b == 0x09) | (b == 0x0A) | (b == 0x20))
+        !is_blank(b)
     }
 }
 
@@ -62,7 +78,7 @@ impl Class for NoSign {
     ghost rule = { no_sign };
 
     fn has(b: u8) -> bool {
-        !((b == 0x7C) | (b == 0x22) | (b == 0x5C))
+        !is_sign(b)
     }
 }
 
@@ -102,7 +118,8 @@ impl Class for Quoted {
     }
 }
 
-// A class whose runs may be long: a block of them is told by a class that vector instructions can test, which has no other bytes.
+// A class whose runs may be long: a block of them is told by a class that vector instructions can test, which has no other bytes. Where no
+// run is long, it is told by the class itself.
 pub trait Long: Class {
     type Block: Class;
 
@@ -129,6 +146,30 @@ impl Long for classes::Plain {
 
 impl Long for classes::Quoted {
     type Block = Quoted;
+
+    ghost wider = { λ b h. h };
+}
+
+impl Long for classes::Colon {
+    type Block = classes::Colon;
+
+    ghost wider = { λ b h. h };
+}
+
+impl Long for classes::Digit {
+    type Block = classes::Digit;
+
+    ghost wider = { λ b h. h };
+}
+
+impl Long for classes::Mark {
+    type Block = classes::Mark;
+
+    ghost wider = { λ b h. h };
+}
+
+impl Long for classes::Text {
+    type Block = Text;
 
     ghost wider = { λ b h. h };
 }

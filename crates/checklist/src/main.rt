@@ -10,7 +10,7 @@ use calls::fresh;
 use console::argument::{argument, is_given};
 use console::file::{File, Sum, open_file, put_sum};
 use console::program::{Program, put_maker};
-use console::report::Report;
+use console::report::Printer;
 use console::told::{DONE, Errors, FAILED, Failure, REFUSED, hand_over, say};
 use orders_part::{Odd, put_orders};
 use sheet::sheet::{Kind, run};
@@ -24,14 +24,14 @@ use texts::page::Page;
 const REFERENCE: u64 = 3271276870;
 
 // One line for tab prefixes, which win, and one for axes and sides.
-fn own_orders(rt: &(impl Print + Errors), report: &mut Report<'_>) -> Result<(), Odd> {
+fn own_orders(rt: &(impl Print + Errors), report: &mut Printer<'_>) -> Result<(), Odd> {
     let tabs = put_orders(rt, report, b"3tab tab vert abo sp a\\ b");
     let others = put_orders(rt, report, b"vert hor abo bel hor sp a\\ b");
     tabs.and(others)
 }
 
 // The orders of the prefixes of the line that is given, or of two where none is.
-fn orders(rt: &(impl Print + Errors + Env), report: &mut Report<'_>) -> Result<(), Odd> {
+fn orders(rt: &(impl Print + Errors + Env), report: &mut Printer<'_>) -> Result<(), Odd> {
     if !is_given(rt, 2) {
         return own_orders(rt, report);
     }
@@ -58,7 +58,7 @@ fn put_reference(
     rt: &(impl Print + Errors),
     f: &mut File,
     path: &[u8],
-    report: &mut Report<'_>,
+    report: &mut Printer<'_>,
 ) -> Result<(), Failure> {
     let mut session = fresh();
     let mut counts = [0u64; COUNTS];
@@ -87,7 +87,7 @@ fn put_head(page: &mut Page<'_>, sum: Sum) {
 // Ends a report. One that is broken off has no number.
 fn ended(
     rt: &(impl Print + Errors + Files),
-    report: &mut Report<'_>,
+    report: &mut Printer<'_>,
     told: Result<(), Failure>,
 ) -> Result<(), Failure> {
     match told {
@@ -106,7 +106,7 @@ fn report(
     path: &[u8],
     out: &mut [u8],
 ) -> Result<u64, Failure> {
-    let mut report = Report::new(Program::Checklist, out);
+    let mut report = Printer::new(Program::Checklist, out);
     put_head(&mut report.page, f.sum);
     put_spellings(rt, &mut report);
     let ordered = orders(rt, &mut report);

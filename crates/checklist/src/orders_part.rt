@@ -1,5 +1,5 @@
 // The line with its prefixes in every order, and how many orders agree with what the last prefixes say.
-use console::report::Report;
+use console::report::Printer;
 use console::told::Errors;
 use limits::LINE;
 use orders::order::orders_of;
@@ -54,7 +54,7 @@ fn put_total(page: &mut Page<'_>, orders: u64, agree: u64) {
 // All orders of the prefixes.
 fn put_all(
     rt: &(impl Print + Errors),
-    report: &mut Report<'_>,
+    report: &mut Printer<'_>,
     line: &[u8],
     p: &Prefixes,
 ) -> Result<(), Odd> {
@@ -78,7 +78,7 @@ fn put_all(
 // The orders of a line whose prefixes are found. With none there is one order, and more than five are not put in order.
 fn put_found(
     rt: &(impl Print + Errors),
-    report: &mut Report<'_>,
+    report: &mut Printer<'_>,
     line: &[u8],
     p: &Prefixes,
 ) -> Result<(), Odd> {
@@ -109,7 +109,7 @@ fn put_heading(page: &mut Page<'_>, line: &[u8]) {
 // The orders of a line.
 pub fn put_orders(
     rt: &(impl Print + Errors),
-    report: &mut Report<'_>,
+    report: &mut Printer<'_>,
     line: &[u8],
 ) -> Result<(), Odd> {
     if LONGEST < line.len() {

@@ -1,5 +1,5 @@
 // Each spelling, in byte order, with the command that it leads to: the command's number and its name.
-use console::report::Report;
+use console::report::Printer;
 use console::told::Errors;
 use replies::put_number;
 use scan::part::part;
@@ -35,7 +35,7 @@ fn put_total(page: &mut Page<'_>, count: u64) {
 }
 
 // All spellings, and how many there are. The step is a row of the table, so the loop is a `while`.
-pub fn put_spellings(rt: &(impl Print + Errors), report: &mut Report<'_>) {
+pub fn put_spellings(rt: &(impl Print + Errors), report: &mut Printer<'_>) {
     let rows = spellings();
     report.page.text(b"spellings and their commands\n");
     let mut count: u64 = 0;

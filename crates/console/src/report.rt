@@ -7,7 +7,7 @@ use std::rt::Files;
 use std::{fs, io};
 use texts::page::Page;
 
-// How many bytes of a long report gather before they are written out: many, since the table that sums them is made anew each time.
+// How many bytes of a long report gather before they are written out.
 pub const REPORT: usize = 262144;
 
 // How many bytes a line of a sheet may take: at most two for each byte of its record, six for each byte in its words, as many where it is
@@ -17,13 +17,19 @@ const TOLD: usize = 24576;
 // Standard output, as a file.
 const OUTPUT: &str = "/dev/fd/1";
 
-// A report: whose it is, what of it is not written out yet, the sum of what was, and whether all of that could be written.
+// How far a report is: whose it is, the sum of what was written out, and whether all of that could be written.
+#[derive(Clone, Copy)]
+pub struct Report {
+    pub program: Program,
+    pub crc: u64,
+    pub written: Result<(), Failure>,
+}
+
+// A report that is printed: what of it is not written out yet, and how far it is.
 #[derive(Drop)]
-pub struct Report<'a> {
+pub struct Printer<'a> {
     pub page: Page<'a>,
-    program: Program,
-    crc: u64,
-    written: Result<(), Failure>,
+    report: Report,
 }
 
 // Has the system keep nothing of standard output back, where that is a file: what fails late then fails here. A file system that writes at
@@ -55,34 +61,43 @@ pub fn told_output(rt: &impl Errors, p: Program, r: io::Result<()>) -> Result<()
     }
 }
 
-impl<'a> Report<'a> {
-    // A report of which nothing is written.
-    pub fn new(program: Program, out: &'a mut [u8]) -> Report<'a> {
+impl Report {
+    // One of which nothing is written.
+    pub fn new(program: Program) -> Report {
         Report {
-            page: Page::new(out),
             program,
             crc: crc::start(),
             written: Ok(()),
         }
     }
+}
+
+impl<'a> Printer<'a> {
+    // A report of which nothing is written.
+    pub fn new(program: Program, out: &'a mut [u8]) -> Printer<'a> {
+        Printer {
+            page: Page::new(out),
+            report: Report::new(program),
+        }
+    }
 
     // Whose it is.
     pub fn program(&self) -> Program {
-        self.program
+        self.report.program
     }
 
     // Whether all of it could be written so far. What could not was told.
     pub fn written(&self) -> Result<(), Failure> {
-        self.written
+        self.report.written
     }
 
     // Writes the report so far out, and adds it to the sum. The first text that could not be written is told, and none is tried after it.
     pub fn flush(&mut self, rt: &(impl Print + Errors)) {
         let text = self.page.written();
-        if self.written.is_ok() {
-            self.written = told_output(rt, self.program, rt.write_all(text));
+        if self.report.written.is_ok() {
+            self.report.written = told_output(rt, self.report.program, rt.write_all(text));
         }
-        self.crc = crc::more(self.crc, text);
+        self.report.crc = crc::more(self.report.crc, text);
         self.page.cut(0);
     }
 
@@ -97,10 +112,10 @@ impl<'a> Report<'a> {
     pub fn end(&mut self, rt: &(impl Print + Errors + Files)) -> Result<(), Failure> {
         self.flush(rt);
         self.page.text(b"number of this report: ");
-        self.page.decimal(crc::end(self.crc));
+        self.page.decimal(crc::end(self.report.crc));
         self.page.text(b"\n");
         self.flush(rt);
         self.written()?;
-        told_output(rt, self.program, settled(rt))
+        told_output(rt, self.report.program, settled(rt))
     }
 }

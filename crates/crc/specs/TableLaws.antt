@@ -129,6 +129,12 @@ passed_twice : (c : ℕ) → passed 8 (passed 8 c) ≡ passed 16 c
 unfolding passed
 passed_twice c = refl
 
+-- one more, behind the others
+passed_last : (k c : ℕ) → passed (suc k) c ≡ crc_byte (passed k c) 0
+unfolding passed
+passed_last zero c = refl
+passed_last (suc k) c = passed_last k (crc_byte c 0)
+
 -- bytes as one number, passed at once --------------------------------------------------------------------------------------
 
 -- a text in two parts
@@ -176,6 +182,25 @@ from_sixteen d s i h b =
     (ap (λ j. drop j s) e)
 
 -- the entries of the table ---------------------------------------------------------------------------------------------------
+
+-- the first 256: one byte
+pub entry_low : (j : ℕ) → j < 256 → entry_of j ≡ crc_byte j 0
+unfolding entry_of passed
+entry_low j h = let d : j / 256 ≡ 0 = omega arith in let m : j % 256 ≡ j = omega arith in rw (d, m)
+
+-- one byte more than the entry 256 before
+entry_next : (j : ℕ) → 256 ≤ j → entry_of j ≡ crc_byte (entry_of (j - 256)) 0
+unfolding entry_of
+entry_next j h =
+    let d : j / 256 ≡ (j - 256) / 256 + 1 = omega arith in
+    let m : j % 256 ≡ (j - 256) % 256 = omega arith in
+    rw (d, m, add-one ((j - 256) / 256 + 1)) (passed_last ((j - 256) / 256 + 1) ((j - 256) % 256))
+
+-- and so by the first 256
+pub entry_on : (j : ℕ) → 256 ≤ j → entry_of j ≡ bit_xor (entry_of (entry_of (j - 256) % 256)) (entry_of (j - 256) / 256)
+entry_on j h =
+    let v = entry_of (j - 256) in
+    entry_next j h ∙ byte_parts v ∙ ap (λ x. bit_xor x (v / 256)) (sym (entry_low (v % 256) (omega arith)))
 
 -- those of k + 1 bytes
 pub entry_at : (k x : ℕ) → entry_of (k * 256 + x % 256) ≡ passed (k + 1) (x % 256)

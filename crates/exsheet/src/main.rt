@@ -8,7 +8,7 @@ use calls::fresh;
 use console::argument::argument;
 use console::file::{File, Sum, open_file, put_file, rewind, say_of};
 use console::program::{Program, put_maker};
-use console::report::{REPORT, Report};
+use console::report::{Printer, REPORT};
 use console::told::{DONE, Errors, FAILED, Failure, REFUSED, hand_over, say};
 use sheet::sheet::{Done, Kind, run};
 use std::fs;
@@ -49,7 +49,7 @@ fn alias_file<'a, R: Errors + Files<File = fs::File>>(
 fn is_alias_file(rt: &(impl Print + Errors), f: &mut Named<'_>, out: &mut [u8]) -> bool {
     let mut session = fresh();
     let mut counts = [0u64; COUNTS];
-    let mut report = Report::new(Program::Exsheet, out);
+    let mut report = Printer::new(Program::Exsheet, out);
     let looked = run(
         rt,
         &mut f.file.handle,
@@ -106,7 +106,7 @@ fn run_whole(
     kind: Kind,
     session: &mut [u8],
     counts: &mut [u64; COUNTS],
-    report: &mut Report<'_>,
+    report: &mut Printer<'_>,
 ) -> Result<Done, Failure> {
     let done = run(
         rt,
@@ -141,7 +141,7 @@ fn add_aliases(
     rt: &(impl Print + Errors),
     aliases: &mut Option<Named<'_>>,
     session: &mut [u8],
-    report: &mut Report<'_>,
+    report: &mut Printer<'_>,
 ) -> Result<u64, Failure> {
     let mut counts = [0u64; COUNTS];
     if let Some(f) = aliases {
@@ -155,7 +155,7 @@ fn run_lines(
     rt: &(impl Print + Errors),
     sheet: &mut Named<'_>,
     session: &mut [u8],
-    report: &mut Report<'_>,
+    report: &mut Printer<'_>,
 ) -> Result<u64, Failure> {
     let mut counts = [0u64; COUNTS];
     let done = run_whole(rt, sheet, Kind::Lines, session, &mut counts, report)?;
@@ -169,7 +169,7 @@ fn told(
     rt: &(impl Print + Errors),
     sheet: &mut Named<'_>,
     aliases: &mut Option<Named<'_>>,
-    report: &mut Report<'_>,
+    report: &mut Printer<'_>,
 ) -> Result<u64, Failure> {
     let mut session = fresh();
     let bad = add_aliases(rt, aliases, &mut session, report)?;
@@ -187,7 +187,7 @@ fn report(
     aliases: &mut Option<Named<'_>>,
     out: &mut [u8],
 ) -> Result<u64, Failure> {
-    let mut report = Report::new(Program::Exsheet, out);
+    let mut report = Printer::new(Program::Exsheet, out);
     put_head(&mut report.page, sheet, aliases);
     match told(rt, sheet, aliases, &mut report) {
         Ok(verdict) => {

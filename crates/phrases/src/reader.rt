@@ -26,11 +26,13 @@ impl<'a> Reader<'a> {
         self.rest
     }
 
-    // A number in its shortest form: groups of seven bits, low group first, 0x80 set on all but the last.
+    // A number in its shortest form: groups of seven bits, low group first, 0x80 set on all but the last. Groups that are none are passed
+    // over too.
     pub fn number(&mut self) -> Option<u64> {
         let bytes = self.rest;
+        let most = bytes.len().min(GROUPS);
         let mut value: u64 = 0;
-        for i in 0..bytes.len().min(GROUPS) {
+        for i in 0..most {
             let b = bytes[i];
             value |= u64::from(b % 128) << (7 * i);
             if b < 128 {
@@ -38,6 +40,7 @@ impl<'a> Reader<'a> {
                 return is_last_group(i, b).then_some(value);
             }
         }
+        self.rest = &bytes[most..];
         None
     }
 
@@ -53,11 +56,9 @@ impl<'a> Reader<'a> {
     }
 }
 
-// The bytes of a name that stands alone.
+// The bytes of a name that stands alone, behind its byte count, whatever form that has.
 pub fn name_of(written: &[u8]) -> &[u8] {
     let mut record = Reader::new(written);
-    match record.number() {
-        Some(_) => record.rest(),
-        None => &[],
-    }
+    let _ = record.number();
+    record.rest()
 }

@@ -18,6 +18,7 @@ use limits::refusal::Refusal;
 use limits::{ALIASES, LAST_COMMAND};
 use placing::insert::put;
 use reading::alone::check_line;
+pub use run::reply::CountReply;
 use run::reply::LineReply;
 use run::run::run;
 use scan::part::byte_at;

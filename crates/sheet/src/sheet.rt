@@ -3,7 +3,7 @@
 use super::alias::{Entry, NoAlias, alias_line};
 use calls::run_line;
 use console::file::{Sum, read_part};
-use console::report::Report;
+use console::report::Printer;
 use console::told::{Errors, Failure};
 use limits::{LINE, STORE};
 use replies::{put_alias_told, put_line_told};
@@ -37,7 +37,7 @@ struct Sheet<'a, 'r> {
     session: &'a mut [u8],
     store: &'a mut [u8],
     counts: &'a mut [u64; COUNTS],
-    report: &'a mut Report<'r>,
+    report: &'a mut Printer<'r>,
     number: u64,
     returns: bool,
 }
@@ -191,7 +191,7 @@ pub fn run<F: Read>(
     kind: Kind,
     session: &mut [u8],
     counts: &mut [u64; COUNTS],
-    report: &mut Report<'_>,
+    report: &mut Printer<'_>,
 ) -> Result<Done, Failure> {
     let mut line = [0u8; LINE + 1];
     let mut store = [0u8; STORE + 1];

@@ -1,8 +1,8 @@
 // The frame of a table: how many words there are, and where those of one length begin.
-ghost use Rattle.std.specs.Prelude.{◌≡◌, ◌+◌, ◌-◌, ◌*◌, ◌<◌, ◌≤◌, true};
+ghost use Rattle.std.specs.Prelude.{◌≡◌, ◌+◌, ◌-◌, ◌*◌, ◌^◌, ◌<◌, ◌≤◌, true};
 ghost use Rattle.limits.specs.Limits.{word_limit};
 ghost use Rattle.scan.specs.Scan.{byte_at, part_of};
-ghost use Rattle.tables.specs.Table.{commands_at, words_at, framed as framed_of, lengths_from, sum as sum_of};
+ghost use Rattle.tables.specs.Table.{commands_at, words_at, table_end, framed as framed_of, lengths_from, sum as sum_of};
 ghost use Rattle.tables.specs.Walk.{lengths_at};
 ghost use Rattle.tables.specs.declared.frame.Start.{Start};
 
@@ -84,5 +84,16 @@ impl Table<'_> {
     {
         let s = self.start_of(WORD);
         s.place + self.count_of(WORD) * WORD
+    }
+}
+
+// Whether the table at `at` with room for `most` words is all there, and has as many words as its counts say.
+pub fn framed(b: &[u8], at: usize, most: usize) -> bool
+    requires { table_end at most < 2 ^ 64 }
+    ensures { result ≡ framed_of at most b.now }
+{
+    match Table::new(b, at, most) {
+        Some(t) => t.framed(),
+        None => false,
     }
 }

@@ -40,7 +40,7 @@ pub fn pair(low: u8, high: u8) -> usize
 }
 
 // Reads until a buffer is full or the input ends, and answers how many bytes are at its front.
-fn read_full<R: Read>(input: &mut R, buffer: &mut [u8]) -> io::Result<usize> {
+pub fn read_full<R: Read>(input: &mut R, buffer: &mut [u8]) -> io::Result<usize> {
     let mut rest = input.by_ref().take(buffer.len() as u64);
     let mut room = buffer;
     let n = io::copy(&mut rest, &mut room)?;
@@ -91,8 +91,8 @@ pub fn next_vector<'a, R: Read>(
 // How many vectors of a run were replayed, and how many of them agree.
 #[derive(Clone, Copy, Default)]
 pub struct Tally {
-    agree: u64,
-    total: u64,
+    pub agree: u64,
+    pub total: u64,
 }
 
 impl Tally {
