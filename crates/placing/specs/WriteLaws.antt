@@ -1,7 +1,7 @@
 -- Laws of bytes written into others: writes apart may change places, writes side by side are one, what is there already need not be written.
 -- Assumes nothing.
 use Rattle.std.specs.Prelude.{◌≡◌, refl, List, [], ◌∷◌, ◌++◌, ℕ, suc, ◌+◌, ◌-◌, ◌<◌, ◌≤◌, length, take, drop, set}
-use Rattle.std.proofs.Common.{sym, ◌∙◌, ap, arith, length-append, append_assoc, get_or-take, get_or-drop, length-take-le, take_all}
+use Rattle.std.proofs.Common.{sym, ◌∙◌, ap, arith, length-append, get_or-take, get_or-drop, length-take-le, take_all}
 use Rattle.std.proofs.lemmas.List.Edits.{sets}
 use Rattle.std.proofs.Math.Seq.{length-sets, split_at, take-append_seam, drop-append_seam}
 use Rattle.std.proofs.lemmas.List.{set_comm, set_split}
@@ -9,8 +9,7 @@ use Rattle.scan.specs.Scan.{byte_at, part_of}
 use Rattle.scan.specs.RunLaws.{drop_step}
 use Rattle.scan.specs.PartLaws.{part_length, part_part}
 use Rattle.fields.specs.SetsLaws.{byte_before, part_behind, sets_part}
-use Rattle.store.specs.Splice.{sets_append, sets_part as sets_whole}
-use Rattle.std.specs.List.{copy_within}
+use Rattle.store.specs.Splice.{sets_append}
 
 -- one byte and others apart from it, in either order
 set_sets : (s : List ℕ) (i x at : ℕ) (v : List ℕ) → i < at → set (sets s at v) i x ≡ sets (set s i x) at v
@@ -129,11 +128,3 @@ moved_turn s b k i to h j m e =
     ∙ set_sets s (i - 1 + k) (byte_at s (i - 1)) (i + k) v (omega arith)
     ∙ ap (λ (q : ℕ). sets (set s (i - 1 + k) (byte_at s (i - 1))) q v) f
     ∙ ap (sets s (i - 1 + k)) (sym p)
-
--- a part that is moved, as the library's `copy_within` leaves it
-pub copied_sets : (s : List ℕ) (a e at : ℕ) → a ≤ e → e ≤ length s → at + (e - a) ≤ length s → copy_within s a e at ≡ sets s at (part_of s a e)
-copied_sets s a e at h k f =
-    let n : at + (e - a) ≡ at + length (part_of s a e) = omega (arith, part_length s a e k) in
-    ap (λ (m : ℕ). (take at s ++ part_of s a e) ++ drop m s) n
-    ∙ append_assoc (take at s) (part_of s a e) _
-    ∙ sets_whole s (part_of s a e) at (omega (arith, n))

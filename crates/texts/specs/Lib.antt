@@ -1,2 +1,4 @@
+pub mod Hex
+pub mod HexLaws
 pub mod Written
 pub mod WrittenLaws

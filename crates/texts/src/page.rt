@@ -1,5 +1,6 @@
 // A page: text that is written into a lent buffer, from its start on. What does not fit is left out.
-ghost use Rattle.std.specs.Prelude.{◌≡◌, [], ◌∷◌, ◌*◌, ◌<◌, ◌≤◌, length, replicate};
+ghost use Rattle.std.specs.Prelude.{◌≡◌, [], ◌∷◌, ◌*◌, ◌/◌, ◌<◌, ◌≤◌, length, replicate, take};
+ghost use Rattle.texts.specs.Hex.{hex_digit, hex_of};
 ghost use Rattle.texts.specs.Written.{Adds, blank, cut, with};
 
 use scan::part::byte_at;
@@ -23,8 +24,10 @@ impl<'a> Model for Page<'a> {
     ghost invariant = { λ p. p.end ≤ length p.out.now };
 }
 
+#[tactic(auto, unfolding(crate::specs::Hex::hex_digit))]
 fn digit(n: u8) -> u8
     requires { n < 16 }
+    ensures { result ≡ hex_digit n }
 {
     if n < 10 { b'0' + n } else { b'a' - 10 + n }
 }
@@ -32,7 +35,7 @@ fn digit(n: u8) -> u8
 // Bytes as two hexadecimal digits each, in lower case.
 fn set_hex(out: &mut [u8], s: &[u8])
     requires { length out.old ≡ 2 * length s.now }
-    ensures { length out.new ≡ length out.old }
+    ensures { out.new ≡ hex_of s.now }
 {
     for i in 0..s.len() {
         out[2 * i] = digit(s[i] / 16);
@@ -125,10 +128,11 @@ impl<'a> Page<'a> {
         self.text(&digits[..k]);
     }
 
-    // Bytes as two digits each. No byte has its first digit alone. The digits are written at once, where there is room for all: a test for
-    // each of them costs ten times as much.
+    // Bytes as two digits each, of as many as there is room for. The room is looked at once: a test for each digit takes ten times as many
+    // instructions.
     pub fn hex(&mut self, s: &[u8])
-        ensures { Adds self.old self.new }
+        ensures exact { self.new ≡ with self.old (hex_of (take (self.old.room / 2) s.now)) }
+        ensures adds { Adds self.old self.new }
     {
         let n = s.len().min((self.out.len() - self.end) / 2);
         let to = self.end + 2 * n;

@@ -19,9 +19,6 @@ loop-i-preserved c = let a = c.args in
     let l = c.loop-i in
     (omega arith, omega arith, length-set l.b _ _ ∙ l.invariant.2, moved_turn a.b.now l.b a.k l.i a.to (omega arith) l.invariant.1 (omega arith) l.invariant.3)
 
-pub shape_of-b : goal.shape_of-b
-shape_of-b c = c.loop-i.invariant.2
-
 pub returns : goal.returns
 returns c = let a = c.args in
     let l = c.loop-i in

@@ -3,8 +3,7 @@
 use mathlib.Core.Path.{◌≡◌, sym, ◌∙◌, ap}
 use Prim.Native.Nat.{ℕ, ◌-◌}
 use native.Mathlib.Omega.{arith}
-use lib.ListN.{length}
-use lib.Seq.{sets, length-sets}
+use lib.Seq.{sets}
 use Rattle.scan.specs.Scan.{part_of}
 use Rattle.scan.specs.PartLaws.{part_none}
 use Rattle.placing.specs.RemoveLaws.{moved_down}
@@ -14,25 +13,10 @@ pub loop-i-init : goal.loop-i-init
 loop-i-init c = let a = c.args in
     (omega arith, (omega arith, ap (sets a.b.now (a.from - a.k)) (sym (part_none a.b.now a.from a.from (omega arith)))))
 
-pub bounds-b-i : goal.bounds-b-i
-bounds-b-i c = let size-here : length c.loop-i.b ≡ length c.args.b.now = let a = c.args in
-    ap length c.loop-i.invariant.1.1 ∙ length-sets a.b.now (a.from - a.k) (part_of a.b.now a.from c.loop-i.i) in
-    omega (arith, size-here)
-
-pub bounds-b-i-in-loop-i : goal.bounds-b-i-in-loop-i
-bounds-b-i-in-loop-i c = let size-here : length c.loop-i.b ≡ length c.args.b.now = let a = c.args in
-    ap length c.loop-i.invariant.1.1 ∙ length-sets a.b.now (a.from - a.k) (part_of a.b.now a.from c.loop-i.i) in
-    omega (arith, size-here)
-
 pub loop-i-preserved : goal.loop-i-preserved
 loop-i-preserved c = let l = c.loop-i in
     let a = c.args in
     (omega arith, (omega arith, moved_down a.b.now l.b a.from l.i a.k (omega arith) (omega arith) (omega arith) l.invariant.1.1))
-
-pub shape_of-b : goal.shape_of-b
-shape_of-b c = let size-here : length c.loop-i.b ≡ length c.args.b.now = let a = c.args in
-    ap length c.loop-i.invariant.1.1 ∙ length-sets a.b.now (a.from - a.k) (part_of a.b.now a.from c.loop-i.i) in
-    size-here
 
 pub returns : goal.returns
 returns c = let l = c.loop-i in
